@@ -1,0 +1,1 @@
+// The rules of the game, on paper: this crate has definitions and laws in specs/, and no code.
