@@ -1,0 +1,3 @@
+-- What the promises of this crate cite beside the rules.
+pub mod Place
+pub mod Around

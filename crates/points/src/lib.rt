@@ -1,0 +1,6 @@
+// Floor 1: the board's points, the colours and the answers' numbers, after the crate's util.rs and stones.rs.
+// Every function takes any numbers at all, and its whole result is what the definitions of `rules` say.
+pub mod answers;
+pub mod coord;
+pub mod sizes;
+pub mod stones;
