@@ -1,0 +1,3 @@
+-- The laws of the definitions.
+pub mod Group
+pub mod Walk

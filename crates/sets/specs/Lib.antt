@@ -1,0 +1,3 @@
+-- Liberty sets. Laws are apart from the definitions.
+pub mod Liberties
+pub mod Laws
