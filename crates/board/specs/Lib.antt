@@ -1,0 +1,6 @@
+-- The board: its colours, when it is true, and what the judge computes.
+pub mod Board
+pub mod True
+pub mod Judge
+pub mod Search
+pub mod Laws
