@@ -1,0 +1,8 @@
+-- What is proved about placing stones.
+pub mod Colours
+pub mod Answers
+pub mod Choked
+pub mod Untaken
+pub mod NewBoard
+pub mod SoFar
+pub mod Spots

@@ -1,0 +1,62 @@
+-- A new board of a size that 01 allows is true, and every point of it is empty.
+use mathlib.Core.Path.{_≡_, refl, sym, ap, ap₂, _∙_, subst}
+use mathlib.Core.Bool.{true, false, not, _&&_}
+use mathlib.Core.List.{List}
+use mathlib.Core.Logic.{⊎-elim}
+use Prim.Native.Nat.{ℕ, zero, suc}
+use native.Mathlib.Omega.{arith}
+use lib.Bits.{bitXor}
+use lib.Dec.{ltb, leb}
+use lib.ListN.{replicate, length-replicate}
+use lib.Seq.{ext-getD}
+use borrow.Author.Tests.{ltb-true, leb-true}
+use Rattle.rules.specs.Sizes.{maxSide, maxArea, slots}
+use Rattle.rules.specs.Points.{area}
+use Rattle.rules.specs.Colours.{empty, at}
+use Rattle.rules.specs.Hash.{hashFrom, hash}
+use Rattle.rules.specs.Answers.{Accepted, BadSize, number, accepts}
+use Rattle.rules.specs.Calls.{sideOk, sizeAnswer, boardAnswer, boardFrom}
+use Rattle.rules.specs.Game.{TrueSize, emptyBoard}
+use Rattle.rules.specs.Laws.Lists.{and-left, and-right, decided, not-both, getD-tabulate-zero}
+use Rattle.rules.specs.Laws.Calls.{size-true}
+use Rattle.chains.specs.Group.{freeChain, used}
+use Rattle.chains.specs.Laws.Group.{table-unused}
+use Rattle.board.specs.declared.goban.Board.{Board}
+use Rattle.board.specs.Board.{owner, chainIn, colourAt, coloursOf, newBoard}
+use Rattle.board.specs.True.{TrueBoard}
+use Rattle.board.specs.Laws.NewBoard.{new-colours, new-true}
+use Rattle.placing.specs.Placing.{Stands, NewBoard, FromColours}
+use Rattle.placing.specs.declared.place.Placed.{Placed}
+use Rattle.placing.specs.Laws.Answers.{refuses, passes, outcome-refused, outcome-accepted}
+
+module _ (h w : ℕ) where
+  pub new-stands : TrueSize h w → Stands h w (emptyBoard h w) (newBoard h w)
+  unfolding newBoard
+  new-stands size = record { isTrue = new-true h w size; tall = refl; wide = refl; colours = new-colours h w }
+
+module _ (h w : ℕ) (r : Placed) where
+  pub size-made : sideOk h && sideOk w ≡ true → r .answer ≡ 0 → r .board ≡ newBoard h w → NewBoard h w r
+  unfolding sizeAnswer accepts number
+  size-made ok e same =
+      let a : sizeAnswer h w ≡ Accepted = passes BadSize (ap not ok) in
+      record {
+        outcome = outcome-accepted (e ∙ ap number (sym a)) (ap accepts a) (subst (Stands h w (emptyBoard h w)) (sym same) (new-stands h w (size-true h w ok)));
+        made = λ y. same;
+      }
+
+  pub size-refused : sideOk h && sideOk w ≡ false → r .answer ≡ 1 → r .board ≡ newBoard 1 1 → NewBoard h w r
+  unfolding sizeAnswer accepts number
+  size-refused bad e same =
+      let a : sizeAnswer h w ≡ BadSize = refuses BadSize (ap not bad) in
+      record { outcome = outcome-refused (e ∙ ap number (sym a)) (ap accepts a) same; made = λ y. absurd (not-both y (ap accepts a)) }
+
+-- a board from colours is true in either case, and is what 01 gives back
+pub from-stands :
+    (h w : ℕ) (cols : List ℕ) (r : Placed) → FromColours h w cols r →
+    Stands (boardFrom h w cols .height) (boardFrom h w cols .width) (boardFrom h w cols .colours) (r .board)
+unfolding boardFrom
+from-stands h w cols r o =
+    ⊎-elim
+    (λ y. rw y (o .placed y))
+    (λ n. rw n (subst (Stands 1 1 (emptyBoard 1 1)) (sym (o .refused n)) (new-stands 1 1 (record { tall = omega arith; low = omega arith; wide = omega arith; narrow = omega arith }))))
+    (decided (accepts (boardAnswer h w cols)))
