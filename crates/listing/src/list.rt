@@ -1,0 +1,194 @@
+// The queries that fill a lent buffer with points, as ascending indexes, after the crate's goban.rs. Each takes any bytes as a board and
+// any buffer.
+use crate::shows::Local;
+use crate::shows::Question;
+use crate::shows::shows;
+use crate::view::view_of;
+use board::goban::Board;
+use board::judge::judge;
+use points::answers::ACCEPTED;
+use points::answers::BAD_COLOUR;
+use points::answers::BAD_LENGTH;
+use points::answers::DAMAGED;
+use points::answers::OFF_BOARD;
+use points::coord::area;
+use points::coord::is_coord_valid;
+use points::sizes::MAX_AREA;
+use points::stones::EMPTY;
+use points::stones::WHITE;
+ghost use mathlib.Core.Path.{_≡_};
+ghost use Prim.Native.Nat.{_≤_};
+ghost use lib.ListN.{length};
+ghost use Rattle.rules.specs.Lists.{pick, below};
+ghost use Rattle.rules.specs.Colours.{empty};
+ghost use Rattle.rules.specs.Answers as answers;
+ghost use Rattle.rules.specs.Points as points;
+ghost use Rattle.board.specs.Board.{coloursOf};
+ghost use Rattle.board.specs.True.{TrueBoard};
+ghost use Rattle.listing.specs.Seen.{passed, Seen, OnBoard};
+ghost use Rattle.listing.specs.Front.{Front};
+ghost use Rattle.listing.specs.Lists.{lengthAnswer, listAnswer, listed, Left, Lists};
+
+// The number of the answer, and how many places were filled: none where the call is refused.
+pub struct Listed {
+    pub number: u8,
+    pub count: usize,
+}
+
+// Writes the points of the list from the front of the buffer on, and answers how many there are.
+fn fill(
+    colours: &[u8; MAX_AREA],
+    leads: &[u16; MAX_AREA],
+    height: u8,
+    width: u8,
+    question: Question,
+    buffer: &mut [u16],
+) -> usize
+    requires { ⌜ Seen (now colours) (now leads) height width × OnBoard height width question × (points.area height width ≤ length (now buffer)) ⌝ }
+    ensures { λ r. ⌜ Front (pick (passed height width (now (colours .entry)) (now (leads .entry)) question) (below (points.area height width))) (now (buffer .entry)) r (now (buffer .exit)) ⌝ }
+{
+    let end = area(height, width);
+    let mut point = 0;
+    let mut count = 0;
+    while point < end {
+        if shows(colours, leads, height, width, question, point) {
+            buffer[count] = point as u16;
+            count += 1;
+            point += 1;
+        } else {
+            point += 1;
+        }
+    }
+    count
+}
+
+// The buffer needs a place for each point of the board, also where fewer would do.
+pub fn length_refusal(height: u8, width: u8, length: usize) -> u8
+    ensures { λ r. ⌜ r ≡ answers.number (lengthAnswer height width length) ⌝ }
+{
+    if length < area(height, width) {
+        return BAD_LENGTH;
+    }
+    ACCEPTED
+}
+
+fn refusal(height: u8, width: u8, length: usize, question: Question) -> u8
+    ensures { λ r. ⌜ r ≡ answers.number (listAnswer height width length question) ⌝ }
+{
+    match question {
+        Question::Stones => length_refusal(height, width, length),
+        Question::Coloured(colour) => {
+            let short = length_refusal(height, width, length);
+            if short != ACCEPTED {
+                return short;
+            }
+            if WHITE < colour {
+                return BAD_COLOUR;
+            }
+            ACCEPTED
+        }
+        Question::At(row, column, _) => {
+            if is_coord_valid(height, width, row, column) {
+                return length_refusal(height, width, length);
+            }
+            OFF_BOARD
+        }
+    }
+}
+
+// The list of a true board.
+fn list_true(board: Board, question: Question, buffer: &mut [u16]) -> Listed
+    requires { ⌜ TrueBoard board ⌝ }
+    ensures { λ r. ⌜ Left (listAnswer (board .height) (board .width) (length (now (buffer .entry))) question) (listed (board .height) (board .width) (coloursOf board) question) (now (buffer .entry)) r (now (buffer .exit)) ⌝ }
+{
+    let height = board.height;
+    let width = board.width;
+    let number = refusal(height, width, buffer.len(), question);
+    if number != ACCEPTED {
+        return Listed { number, count: 0 };
+    }
+    let view = view_of(board);
+    let colours = view.colours;
+    let leads = view.leads;
+    let count = fill(&colours, &leads, height, width, question, buffer);
+    Listed {
+        number: ACCEPTED,
+        count,
+    }
+}
+
+// The list that answers a question, on any board.
+pub fn list(board: Board, question: Question, buffer: &mut [u16]) -> Listed
+    ensures { λ r. ⌜ Lists board question (now (buffer .entry)) r (now (buffer .exit)) ⌝ }
+{
+    if judge(board) {
+        return list_true(board, question, buffer);
+    }
+    Listed {
+        number: DAMAGED,
+        count: 0,
+    }
+}
+
+// The points that are not empty.
+pub fn get_stones(board: Board, buffer: &mut [u16]) -> Listed
+    ensures { λ r. ⌜ Lists board Question.Stones (now (buffer .entry)) r (now (buffer .exit)) ⌝ }
+{
+    list(board, Question::Stones, buffer)
+}
+
+// The points of a colour, the empty ones for the colour 0.
+pub fn get_coords_by_color(board: Board, colour: u8, buffer: &mut [u16]) -> Listed
+    ensures { λ r. ⌜ Lists board (Question.Coloured colour) (now (buffer .entry)) r (now (buffer .exit)) ⌝ }
+{
+    list(board, Question::Coloured(colour), buffer)
+}
+
+// The empty points. The crate's `get_empty_idx` yields the others.
+pub fn get_empty_coords(board: Board, buffer: &mut [u16]) -> Listed
+    ensures { λ r. ⌜ Lists board (Question.Coloured empty) (now (buffer .entry)) r (now (buffer .exit)) ⌝ }
+{
+    list(board, Question::Coloured(EMPTY), buffer)
+}
+
+// The stones of the chain at a point; of an empty point none.
+pub fn chain_stones(board: Board, row: u8, column: u8, buffer: &mut [u16]) -> Listed
+    ensures { λ r. ⌜ Lists board (Question.At row column Local.Chain) (now (buffer .entry)) r (now (buffer .exit)) ⌝ }
+{
+    list(board, Question::At(row, column, Local::Chain), buffer)
+}
+
+// The liberties of the chain at a point; of an empty point none.
+pub fn chain_liberties(board: Board, row: u8, column: u8, buffer: &mut [u16]) -> Listed
+    ensures { λ r. ⌜ Lists board (Question.At row column Local.Liberties) (now (buffer .entry)) r (now (buffer .exit)) ⌝ }
+{
+    list(board, Question::At(row, column, Local::Liberties), buffer)
+}
+
+// The points beside a point.
+pub fn get_connected_points(board: Board, row: u8, column: u8, buffer: &mut [u16]) -> Listed
+    ensures { λ r. ⌜ Lists board (Question.At row column Local.Points) (now (buffer .entry)) r (now (buffer .exit)) ⌝ }
+{
+    list(board, Question::At(row, column, Local::Points), buffer)
+}
+
+// The stones beside a point.
+pub fn get_connected_stones(board: Board, row: u8, column: u8, buffer: &mut [u16]) -> Listed
+    ensures { λ r. ⌜ Lists board (Question.At row column Local.Stones) (now (buffer .entry)) r (now (buffer .exit)) ⌝ }
+{
+    list(board, Question::At(row, column, Local::Stones), buffer)
+}
+
+// The empty points beside a point.
+pub fn get_liberties(board: Board, row: u8, column: u8, buffer: &mut [u16]) -> Listed
+    ensures { λ r. ⌜ Lists board (Question.At row column Local.Empties) (now (buffer .entry)) r (now (buffer .exit)) ⌝ }
+{
+    list(board, Question::At(row, column, Local::Empties), buffer)
+}
+
+// The chains beside a point, each by its least point.
+pub fn get_connected_groups(board: Board, row: u8, column: u8, buffer: &mut [u16]) -> Listed
+    ensures { λ r. ⌜ Lists board (Question.At row column Local.Chains) (now (buffer .entry)) r (now (buffer .exit)) ⌝ }
+{
+    list(board, Question::At(row, column, Local::Chains), buffer)
+}

@@ -1,0 +1,4 @@
+-- The laws of the definitions.
+pub mod Answered
+pub mod Owner
+pub mod Group

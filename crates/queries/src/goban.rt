@@ -1,0 +1,273 @@
+// What is asked of a board, by the names of the crate's goban.rs. A query that refuses gives 0 for every value.
+use crate::answers::answer_at;
+use crate::answers::answer_of;
+use board::goban::Board;
+use chains::group::Chain;
+use chains::group::index;
+use points::answers::ACCEPTED;
+use points::coord::neighbours;
+use points::coord::two_to_1dim;
+use points::sizes::MAX_AREA;
+use points::sizes::SLOTS;
+use points::stones::BLACK;
+use points::stones::EMPTY;
+use points::stones::WHITE;
+ghost use mathlib.Core.Bool.{false, cond};
+ghost use mathlib.Core.Path.{_≡_};
+ghost use lib.Dec.{eqb};
+ghost use lib.ListN.{length, getD};
+ghost use Rattle.rules.specs.Sizes.{maxArea, slots};
+ghost use Rattle.rules.specs.Lists.{any};
+ghost use Rattle.rules.specs.Game.{Player};
+ghost use Rattle.rules.specs.Points as points;
+ghost use Rattle.rules.specs.Chain as rules;
+ghost use Rattle.rules.specs.Game as game;
+ghost use Rattle.chains.specs.Group.{used};
+ghost use Rattle.board.specs.Board.{coloursOf};
+ghost use Rattle.board.specs.True.{TrueBoard};
+ghost use Rattle.queries.specs.Answered.{Answered, offBoard};
+ghost use Rattle.queries.specs.Goban.{ownerOf, unowned, noSize, sizeOf, noHash, hashOf, noStones, stonesOf, noChains, chainsOf, noColour, colourOf, noTest, breathes};
+
+pub struct SizeAnswer {
+    pub answer: u8,
+    pub height: u8,
+    pub width: u8,
+}
+
+pub struct HashAnswer {
+    pub answer: u8,
+    pub hash: u64,
+}
+
+pub struct StonesAnswer {
+    pub answer: u8,
+    pub black: usize,
+    pub white: usize,
+}
+
+pub struct ChainsAnswer {
+    pub answer: u8,
+    pub chains: usize,
+}
+
+pub struct ColourAnswer {
+    pub answer: u8,
+    pub colour: u8,
+}
+
+// Whether what was asked holds.
+pub struct TestAnswer {
+    pub answer: u8,
+    pub holds: bool,
+}
+
+// What owns a point: the chain in a slot, or none.
+pub enum Owner {
+    Slot(usize),
+    Nobody,
+}
+
+pub fn size(board: Board) -> SizeAnswer
+    ensures { λ r. ⌜ Answered board false noSize (sizeOf board) r ⌝ }
+{
+    let answer = answer_of(board);
+    if answer != ACCEPTED {
+        return SizeAnswer {
+            answer: answer,
+            height: 0,
+            width: 0,
+        };
+    }
+    SizeAnswer {
+        answer: ACCEPTED,
+        height: board.height,
+        width: board.width,
+    }
+}
+
+pub fn zobrist_hash(board: Board) -> HashAnswer
+    ensures { λ r. ⌜ Answered board false noHash (hashOf board) r ⌝ }
+{
+    let answer = answer_of(board);
+    if answer != ACCEPTED {
+        return HashAnswer {
+            answer: answer,
+            hash: 0,
+        };
+    }
+    HashAnswer {
+        answer: ACCEPTED,
+        hash: board.hash,
+    }
+}
+
+// The stones of this colour in one chain.
+fn stones_in(chain: Chain, colour: u8) -> usize
+    ensures { λ r. ⌜ r ≡ cond (eqb (chain .colour) colour) (chain .count) 0 ⌝ }
+{
+    if chain.colour == colour {
+        return index(chain.count);
+    }
+    0
+}
+
+// The stones of this colour on the board: those of all its chains.
+fn count_stones(board: Board, colour: u8) -> usize
+    requires { ⌜ TrueBoard board × Player colour ⌝ }
+    ensures { λ r. ⌜ r ≡ game.stones (coloursOf board) colour ⌝ }
+{
+    let mut sum = 0;
+    let mut slot = 0;
+    while slot < SLOTS {
+        sum += stones_in(board.chains[slot], colour);
+        slot += 1;
+    }
+    sum
+}
+
+pub fn number_of_stones(board: Board) -> StonesAnswer
+    ensures { λ r. ⌜ Answered board false noStones (stonesOf board) r ⌝ }
+{
+    let answer = answer_of(board);
+    if answer != ACCEPTED {
+        return StonesAnswer {
+            answer: answer,
+            black: 0,
+            white: 0,
+        };
+    }
+    let black = count_stones(board, BLACK);
+    let white = count_stones(board, WHITE);
+    StonesAnswer {
+        answer: ACCEPTED,
+        black: black,
+        white: white,
+    }
+}
+
+// One chain, if the slot is used.
+fn chain_in(chain: Chain) -> usize
+    ensures { λ r. ⌜ r ≡ cond (used chain) 1 0 ⌝ }
+{
+    if chain.count == 0 {
+        return 0;
+    }
+    1
+}
+
+fn count_chains(board: Board) -> usize
+    requires { ⌜ TrueBoard board ⌝ }
+    ensures { λ r. ⌜ r ≡ rules.chains (board .height) (board .width) (coloursOf board) ⌝ }
+{
+    let mut sum = 0;
+    let mut slot = 0;
+    while slot < SLOTS {
+        sum += chain_in(board.chains[slot]);
+        slot += 1;
+    }
+    sum
+}
+
+pub fn number_of_chains(board: Board) -> ChainsAnswer
+    ensures { λ r. ⌜ Answered board false noChains (chainsOf board) r ⌝ }
+{
+    let answer = answer_of(board);
+    if answer != ACCEPTED {
+        return ChainsAnswer {
+            answer: answer,
+            chains: 0,
+        };
+    }
+    let chains = count_chains(board);
+    ChainsAnswer {
+        answer: ACCEPTED,
+        chains: chains,
+    }
+}
+
+// The chain that owns the point; beyond the largest board there is none.
+pub fn owner_at(owners: &[u16; MAX_AREA], point: usize) -> Owner
+    requires { ⌜ length (now owners) ≡ maxArea ⌝ }
+    ensures { λ r. ⌜ r ≡ ownerOf (getD (now (owners .entry)) point slots) ⌝ }
+{
+    if MAX_AREA <= point {
+        return Owner::Nobody;
+    }
+    let owner = index(owners[point]);
+    if owner < SLOTS {
+        return Owner::Slot(owner);
+    }
+    Owner::Nobody
+}
+
+// The colour of a point: the stone's colour, or leave at once with empty.
+pub fn get_color(board: Board, row: u8, column: u8) -> ColourAnswer
+    ensures { λ r. ⌜ Answered board (offBoard board row column) noColour (colourOf board row column) r ⌝ }
+{
+    let answer = answer_at(board, row, column);
+    if answer != ACCEPTED {
+        return ColourAnswer {
+            answer: answer,
+            colour: EMPTY,
+        };
+    }
+    let point = two_to_1dim(board.width, row, column);
+    let Owner::Slot(slot) = owner_at(&board.owners, point) else {
+        return ColourAnswer {
+            answer: ACCEPTED,
+            colour: EMPTY,
+        };
+    };
+    let chain = board.chains[slot];
+    ColourAnswer {
+        answer: ACCEPTED,
+        colour: chain.colour,
+    }
+}
+
+fn is_unowned(owners: &[u16; MAX_AREA], point: usize) -> bool
+    requires { ⌜ length (now owners) ≡ maxArea ⌝ }
+    ensures { λ r. ⌜ r ≡ unowned (now (owners .entry)) point ⌝ }
+{
+    let Owner::Slot(_) = owner_at(owners, point) else {
+        return true;
+    };
+    false
+}
+
+// No chain owns one of the points beside.
+fn beside_empty(owners: &[u16; MAX_AREA], height: u8, width: u8, point: usize) -> bool
+    requires { ⌜ length (now owners) ≡ maxArea ⌝ }
+    ensures { λ r. ⌜ r ≡ any (unowned (now (owners .entry))) (points.neighbours height width point) ⌝ }
+{
+    let around = neighbours(height, width, point);
+    let beside = around.points;
+    let count = around.count;
+    let mut i = 0;
+    while i < count {
+        if is_unowned(owners, index(beside[i])) {
+            return true;
+        }
+        i += 1;
+    }
+    false
+}
+
+// The point has an empty neighbour.
+pub fn has_liberties(board: Board, row: u8, column: u8) -> TestAnswer
+    ensures { λ r. ⌜ Answered board (offBoard board row column) noTest (breathes board row column) r ⌝ }
+{
+    let answer = answer_at(board, row, column);
+    if answer != ACCEPTED {
+        return TestAnswer {
+            answer: answer,
+            holds: false,
+        };
+    }
+    let point = two_to_1dim(board.width, row, column);
+    let holds = beside_empty(&board.owners, board.height, board.width, point);
+    TestAnswer {
+        answer: ACCEPTED,
+        holds: holds,
+    }
+}
