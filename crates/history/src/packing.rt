@@ -1,0 +1,106 @@
+// The record of a board: its hash low byte first, its colours four to a byte, one zero byte.
+use board::goban::Board;
+use chains::group::index;
+use points::coord::area;
+use points::sizes::COLOUR_BYTES;
+use points::sizes::HASH_BYTES;
+use points::sizes::MAX_AREA;
+use points::sizes::RECORD_BYTES;
+use points::sizes::SLOTS;
+use points::stones::EMPTY;
+ghost use mathlib.Core.Path.{_≡_};
+ghost use mathlib.Core.List.{_++_};
+ghost use Prim.Native.Nat.{_+_, _*_, _<_};
+ghost use lib.ListN.{length, take, drop};
+ghost use Rattle.rules.specs.Sizes.{hashBytes, colourBytes, recordBytes, maxArea};
+ghost use Rattle.rules.specs.Colours.{at};
+ghost use Rattle.rules.specs.Records.{lowBytes, recordOf};
+ghost use Rattle.board.specs.Board.{coloursOf};
+ghost use Rattle.board.specs.True.{TrueBoard};
+ghost use Rattle.history.specs.Packing.{onLargest, colourPart, Packing};
+
+// The colours of the points, each read once; what lies beyond the board is empty.
+pub fn colours_of(board: Board) -> [u8; MAX_AREA]
+    ensures { λ r. ⌜ r ≡ onLargest (coloursOf board) ⌝ }
+{
+    let mut limit = MAX_AREA;
+    let points = area(board.height, board.width);
+    if points < MAX_AREA {
+        limit = points;
+    }
+    let mut colours = [EMPTY; MAX_AREA];
+    let mut p = 0;
+    while p < limit {
+        let owner = index(board.owners[p]);
+        let mut colour = EMPTY;
+        if owner < SLOTS {
+            let chain = board.chains[owner];
+            colour = chain.colour;
+        }
+        colours[p] = colour;
+        p += 1;
+    }
+    colours
+}
+
+// The colour of a point: beyond the largest board nothing stands.
+pub fn colour_at(colours: &[u8; MAX_AREA], point: usize) -> u8
+    requires { ⌜ length (now colours) ≡ maxArea ⌝ }
+    ensures { λ r. ⌜ r ≡ at (now (colours .entry)) point ⌝ }
+{
+    if point < MAX_AREA {
+        return colours[point];
+    }
+    EMPTY
+}
+
+// Four colours in one byte, two bits each, the first lowest.
+fn packed(first: u8, second: u8, third: u8, fourth: u8) -> u8
+    requires { ⌜ (first < 4) × (second < 4) × (third < 4) × (fourth < 4) ⌝ }
+    ensures { λ r. ⌜ r ≡ first + 4 * second + 16 * third + 64 * fourth ⌝ }
+{
+    first + 4 * second + 16 * third + 64 * fourth
+}
+
+// Writes the hash to the first bytes, low byte first.
+fn write_hash(bytes: &mut [u8; RECORD_BYTES], hash: u64)
+    requires { ⌜ length (now bytes) ≡ recordBytes ⌝ }
+    ensures { λ r. ⌜ now (bytes .exit) ≡ lowBytes hashBytes hash ++ drop hashBytes (now (bytes .entry)) ⌝ }
+{
+    let mut rest = hash;
+    let mut left = HASH_BYTES;
+    while 0 < left {
+        bytes[HASH_BYTES - left] = (rest % 256) as u8;
+        rest = rest / 256;
+        left -= 1;
+    }
+}
+
+// Writes the colours to the bytes after the hash.
+fn write_colours(bytes: &mut [u8; RECORD_BYTES], colours: &[u8; MAX_AREA])
+    requires { ⌜ (length (now bytes) ≡ recordBytes) × Packing (now colours) ⌝ }
+    ensures { λ r. ⌜ now (bytes .exit) ≡ take hashBytes (now (bytes .entry)) ++ (colourPart (now (colours .entry)) ++ drop (hashBytes + colourBytes) (now (bytes .entry))) ⌝ }
+{
+    let mut i = 0;
+    while i < COLOUR_BYTES {
+        let p = 4 * i;
+        let first = colour_at(colours, p);
+        let second = colour_at(colours, p + 1);
+        let third = colour_at(colours, p + 2);
+        let fourth = colour_at(colours, p + 3);
+        bytes[HASH_BYTES + i] = packed(first, second, third, fourth);
+        i += 1;
+    }
+}
+
+// The record of a true board.
+pub fn record_of(board: Board) -> [u8; RECORD_BYTES]
+    requires { ⌜ TrueBoard board ⌝ }
+    ensures { λ r. ⌜ r ≡ recordOf (coloursOf board) ⌝ }
+{
+    let colours = colours_of(board);
+    let mut bytes = [0u8; RECORD_BYTES];
+    write_hash(&mut bytes, board.hash);
+    write_colours(&mut bytes, &colours);
+    bytes
+}

@@ -1,0 +1,5 @@
+-- What is proved about the tests.
+pub mod Lists
+pub mod Around
+pub mod Near
+pub mod Eye

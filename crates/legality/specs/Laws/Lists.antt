@@ -1,0 +1,136 @@
+-- Laws of lists: asking and counting along a map or a table, what asking says of counts, and four places filled one by one.
+use mathlib.Core.Path.{_≡_, refl, sym, ap, ap₂, _∙_, subst}
+use mathlib.Core.Bool.{Bool, true, false, cond, not, _&&_, _||_}
+use mathlib.Core.List.{List, [], _∷_, _++_, map, map-append, append-assoc, List·Memᴰ, List·Memᴰ·head, List·Memᴰ·tail}
+use Prim.Native.Nat.{ℕ, zero, suc, _+_, _-_, _<_}
+use native.Mathlib.Nat.{zero-add, add-zero, not-suc-le-zero, le-of-suc-le-suc}
+use native.Mathlib.Numerals.{add-one}
+use native.Mathlib.Omega.{arith}
+use lib.Dec.{eqb, ltb}
+use lib.ListN.{length, getD, take, set, replicate, length-append, length-map, List·getD-append, List·getD-map}
+use lib.Seq.{take-suc, set-append-seam}
+use borrow.Author.Tests.{eqb-true, eq-eqb, ne-eqb, lt-ltb}
+use Rattle.rules.specs.Lists.{tabulate, any, all, count, pick}
+use Rattle.rules.specs.Laws.Lists.{getD-default, any-yes, same-answer}
+use Rattle.rules.specs.Laws.Counting.{count-most}
+use Rattle.rules.specs.Laws.Places.{tabulate-shift, count-append}
+use Rattle.legality.specs.Near.{inFour}
+
+-- ---- Tests
+
+pub not-or : (a b : Bool) → not (a || b) ≡ not a && not b
+not-or true b = refl
+not-or false b = refl
+
+or-regroup : (a b c d : Bool) → (a || b) || (c || d) ≡ (a || c) || (b || d)
+or-regroup true b c d = refl
+or-regroup false b true d = swallow b
+  where
+    swallow : (b : Bool) → b || (true || d) ≡ true
+    swallow true = refl
+    swallow false = refl
+or-regroup false b false d = refl
+
+eqb-more : (a b : ℕ) → eqb a b ≡ eqb (1 + a) (suc b)
+eqb-more a b =
+    same-answer (λ t. let e = eqb-true a b t in eq-eqb (1 + a) (suc b) (omega arith)) (λ t. let e = eqb-true (1 + a) (suc b) t in eq-eqb a b (omega arith))
+
+module _ {A : Type 0} where
+  pub any-or : (f g : A → Bool) (xs : List A) → any (λ x. f x || g x) xs ≡ any f xs || any g xs
+  any-or f g [] = refl
+  any-or f g (x ∷ xs) = ap (λ (r : Bool). (f x || g x) || r) (any-or f g xs) ∙ or-regroup (f x) (g x) (any f xs) (any g xs)
+
+  -- tests that agree on the list's elements
+  pub any-same : (f g : A → Bool) (xs : List A) → ((x : A) → List·Memᴰ x xs → f x ≡ g x) → any f xs ≡ any g xs
+  any-same f g [] h = refl
+  any-same f g (x ∷ xs) h = ap₂ _||_ (h x (List·Memᴰ·head refl)) (any-same f g xs (λ y m. h y (List·Memᴰ·tail m)))
+
+  pub all-same : (f g : A → Bool) (xs : List A) → ((x : A) → List·Memᴰ x xs → f x ≡ g x) → all f xs ≡ all g xs
+  all-same f g [] h = refl
+  all-same f g (x ∷ xs) h = ap₂ _&&_ (h x (List·Memᴰ·head refl)) (all-same f g xs (λ y m. h y (List·Memᴰ·tail m)))
+
+  pub pick-same : (f g : A → Bool) (xs : List A) → ((x : A) → List·Memᴰ x xs → f x ≡ g x) → pick f xs ≡ pick g xs
+  pick-same f g [] h = refl
+  pick-same f g (x ∷ xs) h =
+      ap₂ (λ (t : Bool) (r : List A). cond t (x ∷ r) r) (h x (List·Memᴰ·head refl)) (pick-same f g xs (λ y m. h y (List·Memᴰ·tail m)))
+
+  -- ---- Asking by counting
+
+  pub any-count : (f : A → Bool) (xs : List A) → any f xs ≡ ltb 0 (count f xs)
+  any-count f [] = refl
+  any-count f (x ∷ xs) = go (f x) (any-count f xs)
+    where
+      go : (t : Bool) → any f xs ≡ ltb 0 (count f xs) → t || any f xs ≡ ltb 0 (cond t 1 0 + count f xs)
+      go true ih = sym (lt-ltb 0 (1 + count f xs) (omega arith))
+      go false ih = ih ∙ ap (ltb 0) (sym (zero-add (count f xs)))
+
+  pub all-count : (f : A → Bool) (xs : List A) → all f xs ≡ eqb (count f xs) (length xs)
+  all-count f [] = refl
+  all-count f (x ∷ xs) = go (f x) (all-count f xs)
+    where
+      go : (t : Bool) → all f xs ≡ eqb (count f xs) (length xs) → t && all f xs ≡ eqb (cond t 1 0 + count f xs) (suc (length xs))
+      go true ih = ih ∙ eqb-more (count f xs) (length xs)
+      go false ih = sym (ne-eqb (0 + count f xs) (suc (length xs)) (λ (e : 0 + count f xs ≡ suc (length xs)). omega (arith, count-most f xs)))
+
+  -- one element more
+  pub count-more :
+      (f : A → Bool) (xs : List A) (d : A) (i : ℕ) → i < length xs → count f (take (i + 1) xs) ≡ count f (take i xs) + cond (f (getD xs i d)) 1 0
+  count-more f xs d i h =
+      rw (add-one, take-suc xs i d) (count-append f (take i xs) (getD xs i d ∷ []) ∙ omega arith)
+
+module _ {A : Type 0} {B : Type 0} where
+  pub any-map : (f : B → Bool) (g : A → B) (xs : List A) → any f (map g xs) ≡ any (λ x. f (g x)) xs
+  any-map f g [] = refl
+  any-map f g (x ∷ xs) = ap (λ (t : Bool). f (g x) || t) (any-map f g xs)
+
+  pub map-more :
+      (f : A → B) (xs : List A) (d : A) (i : ℕ) → i < length xs → map f (take (i + 1) xs) ≡ map f (take i xs) ++ (f (getD xs i d) ∷ [])
+  map-more f xs d i h = rw (add-one, take-suc xs i d) (map-append f (take i xs) (getD xs i d ∷ []))
+
+-- ---- Tables
+
+module _ {A : Type 0} where
+  mem-tabulate : (g : ℕ → A) (i n k : ℕ) → k < n → List·Memᴰ (g (i + k)) (tabulate g i n)
+  mem-tabulate g i zero k h = absurd (not-suc-le-zero h)
+  mem-tabulate g i (suc n) zero h = List·Memᴰ·head (ap g (add-zero i))
+  mem-tabulate g i (suc n) (suc k) h =
+      List·Memᴰ·tail (subst (λ (j : ℕ). List·Memᴰ (g j) (tabulate g (suc i) n)) (omega arith) (mem-tabulate g (suc i) n k (le-of-suc-le-suc h)))
+
+  pub any-tabulate-some : (f : A → Bool) (g : ℕ → A) (n k : ℕ) → k < n → f (g k) ≡ true → any f (tabulate g 0 n) ≡ true
+  any-tabulate-some f g n k h e =
+      any-yes f (mem-tabulate g 0 n k h) (subst (λ (j : ℕ). f (g j) ≡ true) (omega arith) e)
+
+  pub any-tabulate-none : (f : A → Bool) (g : ℕ → A) (n : ℕ) → ((k : ℕ) → k < n → f (g k) ≡ false) → any f (tabulate g 0 n) ≡ false
+  any-tabulate-none f g n h = go 0 n (λ k l. subst (λ (j : ℕ). f (g j) ≡ false) (omega arith) (h k l))
+    where
+      go : (i n : ℕ) → ((k : ℕ) → k < n → f (g (i + k)) ≡ false) → any f (tabulate g i n) ≡ false
+      go i zero h = refl
+      go i (suc n) h =
+          ap₂ _||_ (subst (λ (j : ℕ). f (g j) ≡ false) (omega arith) (h 0 (omega arith)))
+          (go (suc i) n (λ k l. subst (λ (j : ℕ). f (g j) ≡ false) (omega arith) (h (suc k) (omega arith))))
+
+  -- a list is the table of its places
+  pub tabulate-places : (f : ℕ → A) (xs : List ℕ) → tabulate (λ k. f (getD xs k 0)) 0 (length xs) ≡ map f xs
+  tabulate-places f [] = refl
+  tabulate-places f (x ∷ xs) =
+      ap (λ (r : List A). f x ∷ r) (tabulate-shift (λ k. f (getD (x ∷ xs) k 0)) 0 (length xs) ∙ tabulate-places f xs)
+
+-- ---- Four places
+
+pub getD-inFour : (f : ℕ → ℕ) (xs : List ℕ) (k : ℕ) → k < length xs → getD (inFour (map f xs)) k 0 ≡ f (getD xs k 0)
+unfolding inFour
+getD-inFour f xs k h =
+    let l : k < length (map f xs) = omega (arith, length-map xs f) in
+    List·getD-append (map f xs) (replicate (4 - length (map f xs)) 0) 0 k l
+    ∙ getD-default (map f xs) k 0 (f 0) l
+    ∙ List·getD-map f xs k 0
+
+-- one place more is filled
+pub inFour-more : (xs : List ℕ) (i v : ℕ) → length xs ≡ i → i < 4 → set (inFour xs) i v ≡ inFour (xs ++ (v ∷ []))
+unfolding inFour
+inFour-more xs i v e h =
+    let left : 4 - length xs ≡ suc (4 - length (xs ++ (v ∷ []))) = omega (arith, length-append xs (v ∷ [])) in
+    let rest : List ℕ = replicate (4 - length (xs ++ (v ∷ []))) 0 in
+    ap₂ (λ (n j : ℕ). set (xs ++ replicate n 0) j v) left (sym e)
+    ∙ set-append-seam xs 0 rest v
+    ∙ sym (append-assoc xs (v ∷ []) rest)

@@ -1,0 +1,4 @@
+-- What the tests of a stone at a point see, and what they say of it.
+pub mod Near
+pub mod Eye
+pub mod Laws
