@@ -1,0 +1,7 @@
+-- The game: what its state shows, when it is true, and what a call promises.
+pub mod View
+pub mod Judge
+pub mod After
+pub mod Promise
+pub mod Asks
+pub mod Laws
