@@ -5,3 +5,4 @@ pub mod View
 pub mod Seen
 pub mod Answers
 pub mod Picture
+pub mod Unique

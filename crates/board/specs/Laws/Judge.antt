@@ -7,7 +7,7 @@ use mathlib.Core.Logic.{_↔_, _≢_, _⊎_, inl, inr, ⊎-elim}
 use Prim.Native.Nat.{ℕ, suc, _+_, _-_, _≤_, _<_}
 use native.Mathlib.Omega.{arith}
 use lib.Dec.{eqb}
-use lib.ListN.{getD}
+use lib.ListN.{length, getD}
 use borrow.Author.Tests.{eq-eqb, ne-eqb}
 use Rattle.rules.specs.Sizes.{maxArea, slots}
 use Rattle.rules.specs.Lists.{below, Distinct}
@@ -258,3 +258,21 @@ module _ (b : Board) (is : TrueBoard b) where
 
 pub judged-true : (b : Board) → Shaped b → judged b ≡ true ↔ TrueBoard b
 judged-true b shape = (λ e. judged-board b shape (judged-says b .0 e), λ is. judged-says b .1 (true-judged b is))
+
+-- so a board is a true one or it is not, also where its lists have other lengths
+pub true-or-not : (b : Board) → TrueBoard b ⊎ ¬ TrueBoard b
+true-or-not b =
+    ⊎-elim
+    (λ o.
+    ⊎-elim
+    (λ l.
+    ⊎-elim
+    (λ c.
+    let shape : Shaped b = record { owners = o; links = l; chains = c } in
+    ⊎-elim (λ y. inl (judged-true b shape .0 y)) (λ n. inr (λ t. not-both (judged-true b shape .1 t) n)) (decided (judged b)))
+    (λ n. inr (λ t. n (t .table .shape .chains)))
+    (equal-or-not (length (b .chains)) slots))
+    (λ n. inr (λ t. n (t .table .shape .links)))
+    (equal-or-not (length (b .next)) maxArea))
+    (λ n. inr (λ t. n (t .table .shape .owners)))
+    (equal-or-not (length (b .owners)) maxArea)

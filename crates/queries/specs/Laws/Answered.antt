@@ -1,21 +1,18 @@
 -- Laws of Answered: a query refuses or tells by its answer's number, and two results that meet its promise are equal.
 use mathlib.Core.Path.{_≡_, refl, sym, ap, _∙_}
 use mathlib.Core.Bool.{Bool, true, false, not, _&&_, _||_}
-use mathlib.Core.Logic.{_≢_, _⊎_, inl, inr, ⊎-elim}
+use mathlib.Core.Logic.{_≢_, ⊎-elim}
 use Prim.Native.Nat.{ℕ, _<_}
 use native.Mathlib.Omega.{arith}
 use lib.Dec.{ltb, leb}
-use lib.ListN.{length}
 use borrow.Author.Tests.{ltb-true, ltb-false, le-leb, lt-leb, leb-false}
-use Rattle.rules.specs.Sizes.{maxArea, slots}
 use Rattle.rules.specs.Points.{area, index}
 use Rattle.rules.specs.Answers.{number, Accepted, Damaged, OffBoard}
-use Rattle.rules.specs.Laws.Lists.{decided, equal-or-not, not-both, or-none-left, or-none-right}
+use Rattle.rules.specs.Laws.Lists.{decided, not-both, or-none-left, or-none-right}
 use Rattle.rules.specs.Laws.Points.{index-on}
 use Rattle.board.specs.declared.goban.Board.{Board}
-use Rattle.board.specs.True.{Shaped, TrueBoard}
-use Rattle.board.specs.Judge.{judged}
-use Rattle.board.specs.Laws.Judge.{judged-true}
+use Rattle.board.specs.True.{TrueBoard}
+use Rattle.board.specs.Laws.Judge.{true-or-not}
 use Rattle.queries.specs.Answered.{offBoard, Judged, Answered}
 
 -- ---- The answer's number
@@ -74,25 +71,7 @@ module _ {R : Type 0} {b : Board} {off : Bool} (refused : ℕ → R) (said : R) 
   pub answered-told : TrueBoard b × (off ≡ false) → {r : R} → r ≡ said → Answered b off refused said r
   answered-told (t, e) q = record { damaged = λ f. absurd (f t); beyond = λ _ e′. absurd (not-both e′ e); accepted = λ _ _. q }
 
--- a board is a true one or it is not: the judge tells
-pub true-or-not : (b : Board) → TrueBoard b ⊎ ¬ TrueBoard b
-true-or-not b =
-    ⊎-elim
-    (λ o.
-    ⊎-elim
-    (λ l.
-    ⊎-elim
-    (λ c.
-    let shape : Shaped b = record { owners = o; links = l; chains = c } in
-    ⊎-elim (λ y. inl (judged-true b shape .0 y)) (λ n. inr (λ t. not-both (judged-true b shape .1 t) n)) (decided (judged b)))
-    (λ n. inr (λ t. n (t .table .shape .chains)))
-    (equal-or-not (length (b .chains)) slots))
-    (λ n. inr (λ t. n (t .table .shape .links)))
-    (equal-or-not (length (b .next)) maxArea))
-    (λ n. inr (λ t. n (t .table .shape .owners)))
-    (equal-or-not (length (b .owners)) maxArea)
-
--- so a promise leaves nothing free
+-- a board is a true one or it is not, so a promise leaves nothing free
 pub answered-unique :
     {R : Type 0} {b : Board} {off : Bool} {refused : ℕ → R} {said r r′ : R} → Answered b off refused said r → Answered b off refused said r′ → r ≡ r′
 answered-unique {b} {off} a a′ =
