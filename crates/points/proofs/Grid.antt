@@ -1,15 +1,13 @@
--- Rows, columns and steps stay on the board, and sizes that are bytes keep every point below 2^16. Assumes nothing.
+-- Rows, columns and steps stay on the board. Assumes nothing.
 use mathlib.Core.Path.{_≡_, refl}
 use mathlib.Core.Bool.{Bool, true, false, cond}
 use mathlib.Core.List.{[]}
 use mathlib.Core.Option.{Option, none, some}
-use Prim.Native.Nat.{ℕ, zero, suc, _+_, _-_, _*_, _^_, _<_, _≤_}
-use native.Mathlib.Nat.{mul-zero, not-suc-le-zero, zero-lt-suc, mod-lt, div-lt-iff-lt-mul, mul-le-mul, lt-of-lt-of-le, lt-of-le-of-lt}
+use Prim.Native.Nat.{ℕ, zero, suc, _+_, _-_, _*_, _<_, _≤_}
+use native.Mathlib.Nat.{mul-zero, not-suc-le-zero, zero-lt-suc, mod-lt, div-lt-iff-lt-mul}
 use native.Mathlib.Omega.{arith}
-use lib.Dec.{ltb, lit<, lit≤}
+use lib.Dec.{ltb}
 use lib.Arith.{digits-lt}
-use mir.Syntax.{w64}
-use mir.Val.{Fits}
 use borrow.Author.Tests.{ltb-true, lt-ltb, le-ltb}
 use Rattle.rules.specs.Points.{area, index, row, column, Shift, back, stay, forth, shifted, joined, towards, sides, neighbours}
 use Rattle.points.specs.Place.{Within}
@@ -54,19 +52,6 @@ towards-below h w p dr dc =
     (λ e. let on = ltb-true p (area h w) e in
     joined-below h w (shifted dr h (row w p)) (shifted dc w (column w p)) (shifted-below dr h (row w p) (row-below h w p on))
     (shifted-below dc w (column w p) (column-below h w p on)))
-
--- ---- Bytes
-
-pub bytes-product : {a b : ℕ} → a < 2 ^ 8 → b < 2 ^ 8 → a * b < 2 ^ 16
-bytes-product {a} {b} ha hb =
-    lt-of-le-of-lt (mul-le-mul {n₁ = a} {m₁ = b} {n₂ = 255} {m₂ = 255} (omega arith) (omega arith)) (lit< tt)
-
-pub bytes-index : {a b c : ℕ} → a < 2 ^ 8 → b < 2 ^ 8 → c < 2 ^ 8 → a * b + c < 2 ^ 16
-bytes-index {a} {b} {c} ha hb hc =
-    omega (arith, mul-le-mul {n₁ = a} {m₁ = b} {n₂ = 255} {m₂ = 255} (omega arith) (omega arith))
-
-pub fits-word : {n : ℕ} → n < 2 ^ 16 → Fits w64 n
-fits-word h = record { fits = lt-of-lt-of-le h (lit≤ tt) }
 
 -- ---- A point's row and column, as the code has them
 

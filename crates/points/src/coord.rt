@@ -1,10 +1,14 @@
-// Points of a board: their numbers, rows and columns, and the points beside and across. Sizes, rows and columns are bytes, as in
-// the crate; points are usize. A point that is off the board lies beside nothing.
-ghost use mathlib.Core.Bool.{_&&_};
+// Points of a board: their numbers, rows and columns, which `grid` has, and the points beside and across. A point that is off the
+// board lies beside nothing.
+pub use grid::coord::area;
+pub use grid::coord::column_of;
+pub use grid::coord::is_coord_valid;
+pub use grid::coord::on_board;
+pub use grid::coord::row_of;
+pub use grid::coord::two_to_1dim;
 ghost use mathlib.Core.Path.{_≡_};
 ghost use mathlib.Core.Option.{none};
 ghost use Prim.Native.Nat.{_^_, _<_};
-ghost use lib.Dec.{ltb};
 ghost use lib.ListN.{length, getD};
 ghost use Rattle.rules.specs.Points as points;
 ghost use Rattle.points.specs.Place.{placeOf, shiftOf, Within};
@@ -27,49 +31,6 @@ pub enum Shift {
 pub struct Around {
     pub count: usize,
     pub points: [u16; 4],
-}
-
-pub fn is_coord_valid(height: u8, width: u8, row: u8, column: u8) -> bool
-    ensures { λ r. ⌜ r ≡ ltb row height && ltb column width ⌝ }
-{
-    row < height && column < width
-}
-
-pub fn area(height: u8, width: u8) -> usize
-    ensures { λ r. ⌜ r ≡ points.area height width ⌝ }
-{
-    (height as usize) * (width as usize)
-}
-
-pub fn two_to_1dim(width: u8, row: u8, column: u8) -> usize
-    ensures { λ r. ⌜ r ≡ points.index width row column ⌝ }
-{
-    (row as usize) * (width as usize) + (column as usize)
-}
-
-// Where the width is 0, row and column are what the definitions' division by 0 gives: 0, and the point itself.
-pub fn row_of(width: u8, point: usize) -> usize
-    ensures { λ r. ⌜ r ≡ points.row width point ⌝ }
-{
-    if width == 0 {
-        return 0;
-    }
-    point / (width as usize)
-}
-
-pub fn column_of(width: u8, point: usize) -> usize
-    ensures { λ r. ⌜ r ≡ points.column width point ⌝ }
-{
-    if width == 0 {
-        return point;
-    }
-    point % (width as usize)
-}
-
-pub fn on_board(height: u8, width: u8, point: usize) -> bool
-    ensures { λ r. ⌜ r ≡ ltb point (points.area height width) ⌝ }
-{
-    point < area(height, width)
 }
 
 // One step along a row or a column of n places.

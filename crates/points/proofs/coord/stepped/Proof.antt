@@ -8,7 +8,8 @@ use Rattle.points.specs.declared.coord.Place.{Place}
 use Rattle.points.specs.declared.coord.Place.the-variants.{At}
 use Rattle.points.specs.declared.coord.Shift.{Shift}
 use Rattle.points.specs.Place.{placeOf, shiftOf, Within}
-use Rattle.points.proofs.Grid.{shifted-below, bytes-product, bytes-index, fits-word}
+use Rattle.grid.proofs.Bytes.{bytes-product, bytes-index, fits-word}
+use Rattle.points.proofs.Grid.{shifted-below}
 use Rattle.points.proofs.coord.stepped.Statement.{statement}
 use Rattle.points.proofs.coord.stepped.Tie as tie
 

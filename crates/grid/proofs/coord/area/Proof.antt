@@ -2,9 +2,9 @@
 use mathlib.Core.Path.{refl}
 use borrow.Author.Needs.{needs}
 use Rattle.rules.specs.Points.{area}
-use Rattle.points.proofs.Grid.{bytes-product, fits-word}
-use Rattle.points.proofs.coord.area.Statement.{statement}
-use Rattle.points.proofs.coord.area.Tie as tie
+use Rattle.grid.proofs.Bytes.{bytes-product, fits-word}
+use Rattle.grid.proofs.coord.area.Statement.{statement}
+use Rattle.grid.proofs.coord.area.Tie as tie
 
 mul-result : tie.Need-mul-result
 mul-result c = fits-word (bytes-product (search needs) (search needs))

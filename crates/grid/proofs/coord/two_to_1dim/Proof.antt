@@ -2,9 +2,9 @@
 use mathlib.Core.Path.{refl}
 use borrow.Author.Needs.{needs}
 use Rattle.rules.specs.Points.{index}
-use Rattle.points.proofs.Grid.{bytes-product, bytes-index, fits-word}
-use Rattle.points.proofs.coord.two_to_1dim.Statement.{statement}
-use Rattle.points.proofs.coord.two_to_1dim.Tie as tie
+use Rattle.grid.proofs.Bytes.{bytes-product, bytes-index, fits-word}
+use Rattle.grid.proofs.coord.two_to_1dim.Statement.{statement}
+use Rattle.grid.proofs.coord.two_to_1dim.Tie as tie
 
 mul-result : tie.Need-mul-result
 mul-result c = fits-word (bytes-product (search needs) (search needs))

@@ -3,8 +3,8 @@ use borrow.Author.Needs.{needs}
 use mathlib.Core.Path.{refl, sym}
 use native.Mathlib.Nat.{mod-zero}
 use Rattle.rules.specs.Points.{column}
-use Rattle.points.proofs.coord.column_of.Statement.{statement}
-use Rattle.points.proofs.coord.column_of.Tie as tie
+use Rattle.grid.proofs.coord.column_of.Statement.{statement}
+use Rattle.grid.proofs.coord.column_of.Tie as tie
 
 returns : tie.Need-returns
 unfolding column

@@ -1,7 +1,7 @@
 -- `on_board` meets its contract: the code and the definition make the same test. Assumes nothing.
 use borrow.Author.Needs.{needs}
-use Rattle.points.proofs.coord.on_board.Statement.{statement}
-use Rattle.points.proofs.coord.on_board.Tie as tie
+use Rattle.grid.proofs.coord.on_board.Statement.{statement}
+use Rattle.grid.proofs.coord.on_board.Tie as tie
 
 area-requires : tie.Need-area-requires
 area-requires c κs = search needs

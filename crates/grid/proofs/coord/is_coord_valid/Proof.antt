@@ -1,7 +1,7 @@
 -- `is_coord_valid` meets its contract: the code and the definition make the same tests. Assumes nothing.
 use borrow.Author.Tests.{lt-ltb, le-ltb}
-use Rattle.points.proofs.coord.is_coord_valid.Statement.{statement}
-use Rattle.points.proofs.coord.is_coord_valid.Tie as tie
+use Rattle.grid.proofs.coord.is_coord_valid.Statement.{statement}
+use Rattle.grid.proofs.coord.is_coord_valid.Tie as tie
 
 returns : tie.Need-returns
 returns c = simp (lt-ltb _ _ (c .if1 .taken))
