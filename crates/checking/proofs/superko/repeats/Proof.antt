@@ -1,0 +1,50 @@
+-- `repeats`: the board that is laid is the rules' resulting one, so its record is the one that the rules look for.
+use mathlib.Core.List.{List}
+use mathlib.Core.Path.{_≡_, ap, _∙_}
+use Prim.Native.Nat.{ℕ}
+use lib.ListN.{length}
+use borrow.Author.Needs.{needs}
+use Rattle.rules.specs.Records.{capacity, recorded}
+use Rattle.rules.specs.Move.{played}
+use Rattle.rules.specs.Calls.{resulting}
+use Rattle.rules.specs.Laws.Records.{length-record}
+use Rattle.board.specs.Board.{coloursOf}
+use Rattle.history.specs.History.{among}
+use Rattle.history.specs.Laws.History.{among-recorded}
+use Rattle.game.specs.View.{RoomIn, viewOf}
+use Rattle.checking.specs.Laws.Asking.{repeating-laying}
+use Rattle.checking.proofs.superko.repeats.Statement.{statement}
+use Rattle.checking.proofs.superko.repeats.Tie as tie
+
+player-of-requires : tie.Need-player-of-requires
+player-of-requires c κs = search needs
+
+lay-requires : tie.Need-lay-requires
+lay-requires c κs = repeating-laying _ _ _ (c .before .before .before .pre) _ (c .player-of .ensures)
+
+record-of-requires : tie.Need-record-of-requires
+record-of-requires c κs = search needs
+
+is-recorded-requires : tie.Need-is-recorded-requires
+unfolding RoomIn capacity
+is-recorded-requires c κs =
+    let start = c .before .before .before .before .before .before .before in
+    record { within = start .pre .asking .room; long = ap length (c .before .record-of .ensures) ∙ length-record _ }
+
+returns : tie.Need-returns
+unfolding resulting viewOf
+returns c =
+    let written = c .before .before in
+    let laid = written .before .before in
+    let a = laid .before .before .before .before .args in
+    c .is-recorded .ensures
+    ∙ ap (among (a .history .now) (a .game .records)) (written .record-of .ensures)
+    ∙ among-recorded (a .history .now) (a .game .records) _
+    ∙ ap (recorded (a .history .now) (a .game .records))
+    (laid .lay .ensures .colours
+    ∙ ap (λ (own : ℕ). played (a .game .board .height) (a .game .board .width) (a .game .flags) (coloursOf (a .game .board)) own (a .point)) (laid .before .player-of .ensures))
+
+pub repeats-spec : {M : Type 1} → statement M
+repeats-spec =
+    tie.close
+    (tie.spec player-of-requires lay-requires record-of-requires is-recorded-requires returns)

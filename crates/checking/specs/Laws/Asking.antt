@@ -1,0 +1,158 @@
+-- Laws of Asking: a capture may be laid whatever the flags forbid, and what the tests tell of what stands near is the rules' answer.
+use mathlib.Core.Bool.{Bool, true, false, cond, not, _&&_}
+use mathlib.Core.List.{List}
+use mathlib.Core.Option.{none, some}
+use mathlib.Core.Path.{_≡_, refl, sym, ap, _∙_, subst}
+use mathlib.Core.Logic.{_≢_}
+use Prim.Native.Nat.{ℕ, _≤_, _<_}
+use native.Mathlib.Omega.{arith}
+use lib.Dec.{eqb, ltb}
+use lib.ListN.{length}
+use borrow.Author.Tests.{not-true, not-false, eq-eqb, ne-eqb, ltb-true}
+use Rattle.rules.specs.Sizes.{maxArea}
+use Rattle.rules.specs.Lists.{any}
+use Rattle.rules.specs.Points.{area, index, neighbours}
+use Rattle.rules.specs.Colours.{empty, other, at}
+use Rattle.rules.specs.Records.{recorded}
+use Rattle.rules.specs.Flags.{SUICIDE, forbids}
+use Rattle.rules.specs.Tests.{inAtari, suicide, isKoPoint, ko, eye, captures, superko}
+use Rattle.rules.specs.Game.{Player}
+use Rattle.rules.specs.Answers.{OffBoard, PointNotEmpty, number}
+use Rattle.rules.specs.Calls.{outside, offBoard, taken, resulting, forbiddenAnswer, pointAnswer}
+use Rattle.rules.specs.Laws.Lists.{and-left, and-right, not-yes, not-both}
+use Rattle.rules.specs.Laws.Points.{index-on}
+use Rattle.board.specs.declared.goban.Board.{Board}
+use Rattle.board.specs.Board.{coloursOf}
+use Rattle.board.specs.True.{TrueBoard}
+use Rattle.board.specs.Laws.Board.{area-fits, length-colours}
+use Rattle.listing.specs.Laws.Answers.{refused-then, passed-then, off-not-on}
+use Rattle.laying.specs.Laying.{Laying}
+use Rattle.history.specs.Packing.{onLargest}
+use Rattle.history.specs.Laws.Packing.{at-onLargest}
+use Rattle.legality.specs.declared.near.Near.{Near}
+use Rattle.legality.specs.Near.{nearOf, besides, saves, catchesMore, caught}
+use Rattle.legality.specs.Laws.Near.{suicide-near, ko-near, captures-near}
+use Rattle.legality.specs.Laws.Eye.{eye-same}
+use Rattle.game.specs.declared.state.Game.{Game}
+use Rattle.game.specs.View.{noPoint, turnOf, koOf, viewOf}
+use Rattle.game.specs.Laws.View.{turn-player}
+use Rattle.checking.specs.declared.superko.Told.{Told}
+use Rattle.checking.specs.Told.{atKo, toldOf, settled, undecided}
+use Rattle.checking.specs.Asking.{Asking, Repeating}
+use Rattle.checking.specs.Laws.Told.{told-settled, told-captures}
+
+-- ---- A capture may be laid
+
+capture-no-suicide : (h w : ℕ) (cols : List ℕ) (own p : ℕ) → captures h w cols own p ≡ true → suicide h w cols own p ≡ false
+unfolding captures suicide
+capture-no-suicide h w cols own p e =
+    let free : Bool =
+    not (any (λ q. eqb (at cols q) empty) (neighbours h w p)) && not (any (λ q. eqb (at cols q) own && not (inAtari h w cols q)) (neighbours h w p)) in
+    not-yes (λ y. not-both e (not-true (captures h w cols own p) (and-right free (not (captures h w cols own p)) y)))
+
+pub repeating-laying : (g : Game) (n p : ℕ) → Repeating g n p → (c : ℕ) → c ≡ turnOf (g .turn) → Laying (g .board) p c (g .flags)
+repeating-laying g n p is c e =
+    subst (λ (c : ℕ). Laying (g .board) p c (g .flags)) (sym e)
+    (record {
+      board = is .asking .state .board;
+      on = is .asking .on;
+      empty = is .asking .empty;
+      player = turn-player (g .turn);
+      allowed = not-yes (λ y. not-both (and-right (forbids (g .flags) SUICIDE) _ y) (capture-no-suicide _ _ _ _ p (is .captures)));
+    })
+
+-- ---- The ko point
+
+atKo-point : (h w : ℕ) (cols : List ℕ) (x p : ℕ) → atKo x p ≡ isKoPoint h w cols (koOf x) p
+unfolding atKo koOf isKoPoint
+atKo-point h w cols x p = go (eqb x noPoint)
+  where
+    go : (t : Bool) → not t && eqb p x ≡ isKoPoint h w cols (cond t none (some x)) p
+    go true = refl
+    go false = refl
+
+colours-fit : (b : Board) → TrueBoard b → length (coloursOf b) ≤ maxArea
+colours-fit b is = rw (length-colours b) (area-fits (is .table .size))
+
+-- ---- A point of the board, and whether it is empty
+
+module _ (g : Game) (bytes : List ℕ) (flags r c : ℕ) (valid : Bool) (tested : valid ≡ ltb r (g .board .height) && ltb c (g .board .width)) where
+  off : offBoard (viewOf g) r c ≡ not valid
+  unfolding offBoard outside viewOf
+  off = off-not-on (g .board .height) (g .board .width) r c ∙ ap not (sym tested)
+
+  pub point-outside : not valid ≡ true → 5 ≡ number (pointAnswer (viewOf g) bytes flags r c)
+  unfolding pointAnswer number
+  point-outside e = sym (refused-then OffBoard _ (λ (z : _≡_ {A = ℕ} 5 0). omega arith) (off ∙ e))
+
+  module _ (inside : not valid ≡ false) (p : ℕ) (here : p ≡ index (g .board .width) r c) where
+    pub point-on : p < area (g .board .height) (g .board .width)
+    point-on =
+        let both : ltb r (g .board .height) && ltb c (g .board .width) ≡ true = sym tested ∙ not-false valid inside in
+        subst (λ (k : ℕ). k < area (g .board .height) (g .board .width)) (sym here)
+        (index-on (ltb-true r (g .board .height) (and-left _ _ both)) (ltb-true c (g .board .width) (and-right (ltb r (g .board .height)) _ both)))
+
+    pub point-taken : at (coloursOf (g .board)) p ≢ empty → 6 ≡ number (pointAnswer (viewOf g) bytes flags r c)
+    unfolding pointAnswer taken viewOf number
+    point-taken n =
+        sym
+        (passed-then OffBoard _ (off ∙ inside)
+        ∙ refused-then PointNotEmpty _ (λ (z : _≡_ {A = ℕ} 6 0). omega arith) (ap not (ne-eqb _ empty (λ z. n (ap (at (coloursOf (g .board))) here ∙ z)))))
+
+    pub point-open : at (coloursOf (g .board)) p ≡ empty → number (forbiddenAnswer (viewOf g) bytes flags p) ≡ number (pointAnswer (viewOf g) bytes flags r c)
+    unfolding pointAnswer taken viewOf
+    point-open e =
+        ap (λ (q : ℕ). number (forbiddenAnswer (viewOf g) bytes flags q)) here
+        ∙ sym
+        (passed-then OffBoard _ (off ∙ inside)
+        ∙ passed-then PointNotEmpty _ (ap not (eq-eqb _ empty (ap (at (coloursOf (g .board))) (sym here) ∙ e))))
+
+-- the colours of a true board, as they are read
+pub colour-read : (b : Board) → TrueBoard b → (cs : List ℕ) → cs ≡ onLargest (coloursOf b) → (p x : ℕ) → x ≡ at cs p → x ≡ at (coloursOf b) p
+colour-read b is cs seen p x e = e ∙ ap (λ (l : List ℕ). at l p) seen ∙ at-onLargest (coloursOf b) (colours-fit b is) p
+
+-- ---- What the tests tell
+
+module _ (g : Game) (is : TrueBoard (g .board)) (flags p : ℕ) (n : Near) (beside : n ≡ nearOf (g .board .height) (g .board .width) (coloursOf (g .board)) p)
+    (cs : List ℕ) (seen : cs ≡ onLargest (coloursOf (g .board))) (own : ℕ) (mover : own ≡ turnOf (g .turn)) (k : Bool) (at-ko : k ≡ atKo (g .ko) p)
+    (t : Told) (told :
+    t ≡ toldOf flags (not (any (saves own) (besides n))) (k && not (any catchesMore (besides n))) (eye (g .board .height) (g .board .width) cs own p)
+    (any (caught (other own)) (besides n)) (g .records)) where
+  abbrev h : ℕ
+  h = g .board .height
+
+  abbrev w : ℕ
+  w = g .board .width
+
+  abbrev cols : List ℕ
+  cols = coloursOf (g .board)
+
+  own-suicide : not (any (saves own) (besides n)) ≡ suicide h w cols (turnOf (g .turn)) p
+  own-suicide = suicide-near h w cols n p beside own ∙ ap (λ (c : ℕ). suicide h w cols c p) mover
+
+  its-ko : k && not (any catchesMore (besides n)) ≡ ko h w cols (koOf (g .ko)) p
+  its-ko = ap (λ (b : Bool). b && not (any catchesMore (besides n))) (at-ko ∙ atKo-point h w cols (g .ko) p) ∙ ko-near h w cols n p beside (koOf (g .ko))
+
+  own-eye : eye h w cs own p ≡ eye h w cols (turnOf (g .turn)) p
+  own-eye =
+      ap (λ (l : List ℕ). eye h w l own p) seen
+      ∙ eye-same h w (onLargest cols) cols own (λ q on. at-onLargest cols (colours-fit (g .board) is) q) p
+      ∙ ap (λ (c : ℕ). eye h w cols c p) mover
+
+  own-captures : any (caught (other own)) (besides n) ≡ captures h w cols (turnOf (g .turn)) p
+  own-captures = captures-near h w cols n p beside own ∙ ap (λ (c : ℕ). captures h w cols c p) mover
+
+  by-rules : t ≡ toldOf flags (suicide h w cols (turnOf (g .turn)) p) (ko h w cols (koOf (g .ko)) p) (eye h w cols (turnOf (g .turn)) p)
+      (captures h w cols (turnOf (g .turn)) p) (g .records)
+  by-rules = told ∙ (λ i. toldOf flags (own-suicide i) (its-ko i) (own-eye i) (own-captures i) (g .records))
+
+  pub told-forbidden : (bytes : List ℕ) → settled t (recorded bytes (g .records) (resulting (viewOf g) p)) ≡ number (forbiddenAnswer (viewOf g) bytes flags p)
+  unfolding viewOf forbiddenAnswer superko
+  told-forbidden bytes =
+      ap (λ (x : Told). settled x (recorded bytes (g .records) (resulting (viewOf g) p))) by-rules
+      ∙ told-settled flags (suicide h w cols (turnOf (g .turn)) p) (ko h w cols (koOf (g .ko)) p) (eye h w cols (turnOf (g .turn)) p)
+      (captures h w cols (turnOf (g .turn)) p) (g .records) (recorded bytes (g .records) (resulting (viewOf g) p))
+
+  pub told-repeating : (len : ℕ) → Asking g len p → undecided t ≡ true → Repeating g len p
+  told-repeating len asking e =
+      record { asking = asking; captures = told-captures flags _ _ _ _ (g .records) (ap undecided (sym by-rules) ∙ e) }

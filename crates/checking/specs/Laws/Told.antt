@@ -1,0 +1,82 @@
+-- Laws of Told: what the tests tell settles to the rules' answer, and the records decide only where the stone captures.
+use mathlib.Core.Bool.{Bool, true, false, cond, not, _&&_, _||_}
+use mathlib.Core.Path.{_≡_, refl, sym, ap, _∙_}
+use mathlib.Core.Logic.{⊎-elim}
+use Prim.Native.Nat.{ℕ}
+use lib.Dec.{eqb, ltb}
+use borrow.Author.Tests.{eq-eqb, ne-eqb}
+use Rattle.rules.specs.Flags.{KO, SUICIDE, FILLEYE, SUPERKO, forbids}
+use Rattle.rules.specs.Answers as answers
+use Rattle.rules.specs.Answers.{number, accepts, refuse, _then_}
+use Rattle.rules.specs.Laws.Lists.{decided, not-yes, not-both}
+use Rattle.checking.specs.declared.superko.Told.{Told}
+use Rattle.checking.specs.declared.superko.Told.the-variants.{Answer, IfRecorded}
+use Rattle.checking.specs.Told.{superkoTold, toldOf, settled, undecided}
+
+-- ---- What it settles to
+
+pub superko-settled :
+    (captures ko : Bool) (records : ℕ) (again : Bool) →
+    settled (superkoTold captures ko records) again ≡ number (refuse answers.SuperKo (ltb 2 records && captures && (ko || again)))
+unfolding superkoTold refuse
+superko-settled captures ko records again = go (ltb 2 records) captures ko
+  where
+    go : (many captures ko : Bool) →
+        settled (cond (many && captures) (cond ko (Answer (number answers.SuperKo)) IfRecorded) (Answer (number answers.Accepted))) again
+        ≡ number (cond (many && captures && (ko || again)) answers.SuperKo answers.Accepted)
+    go false captures ko = refl
+    go true false ko = refl
+    go true true false = refl
+    go true true true = refl
+
+pub told-settled :
+    (flags : ℕ) (suicide ko eye captures : Bool) (records : ℕ) (again : Bool) →
+    settled (toldOf flags suicide ko eye captures records) again
+    ≡ number
+    (refuse answers.Suicide (forbids flags SUICIDE && suicide)
+    then refuse answers.Ko (forbids flags KO && ko)
+    then refuse answers.FillEye (forbids flags FILLEYE && eye)
+    then refuse answers.SuperKo (forbids flags SUPERKO && (ltb 2 records && captures && (ko || again))))
+unfolding toldOf _then_ accepts refuse number
+told-settled flags suicide ko eye captures records again =
+    go (forbids flags SUICIDE && suicide) (forbids flags KO && ko) (forbids flags FILLEYE && eye) (forbids flags SUPERKO)
+    (superkoTold captures ko records) (ltb 2 records && captures && (ko || again)) (superko-settled captures ko records again)
+  where
+    go : (a b c d : Bool) (last : Told) (test : Bool) → settled last again ≡ number (refuse answers.SuperKo test) →
+        settled
+        (cond a (Answer (number answers.Suicide))
+        (cond b (Answer (number answers.Ko)) (cond c (Answer (number answers.FillEye)) (cond d last (Answer (number answers.Accepted))))))
+        again
+        ≡ number (refuse answers.Suicide a then refuse answers.Ko b then refuse answers.FillEye c then refuse answers.SuperKo (d && test))
+    go true b c d last test e = refl
+    go false true c d last test e = refl
+    go false false true d last test e = refl
+    go false false false false last test e = refl
+    go false false false true last test e = e
+
+-- ---- Where the records decide, the stone captures
+
+told-silent : (flags : ℕ) (suicide ko eye : Bool) (records : ℕ) → undecided (toldOf flags suicide ko eye false records) ≡ false
+unfolding toldOf superkoTold
+told-silent flags suicide ko eye records =
+    go (forbids flags SUICIDE && suicide) (forbids flags KO && ko) (forbids flags FILLEYE && eye) (forbids flags SUPERKO) (ltb 2 records)
+  where
+    go : (a b c d many : Bool) →
+        undecided
+        (cond a (Answer (number answers.Suicide))
+        (cond b (Answer (number answers.Ko))
+        (cond c (Answer (number answers.FillEye))
+        (cond d (cond (many && false) (cond ko (Answer (number answers.SuperKo)) IfRecorded) (Answer (number answers.Accepted)))
+        (Answer (number answers.Accepted))))))
+        ≡ false
+    go true b c d many = refl
+    go false true c d many = refl
+    go false false true d many = refl
+    go false false false false many = refl
+    go false false false true false = refl
+    go false false false true true = refl
+
+pub told-captures :
+    (flags : ℕ) (suicide ko eye captures : Bool) (records : ℕ) → undecided (toldOf flags suicide ko eye captures records) ≡ true → captures ≡ true
+told-captures flags suicide ko eye true records e = refl
+told-captures flags suicide ko eye false records e = absurd (not-both e (told-silent flags suicide ko eye records))

@@ -1,0 +1,4 @@
+-- What is asked of a point before a stone is laid there: what the tests tell, and what the code asks of a state.
+pub mod Told
+pub mod Asking
+pub mod Laws

@@ -1,0 +1,37 @@
+-- What is told of a point before any stone is laid, by what the tests say, and what it settles to once the records are looked through.
+use mathlib.Core.Bool.{Bool, true, false, cond, not, _&&_}
+use Prim.Native.Nat.{ℕ}
+use lib.Dec.{eqb, ltb}
+use Rattle.rules.specs.Flags.{KO, SUICIDE, FILLEYE, SUPERKO, forbids}
+use Rattle.rules.specs.Answers as answers
+use Rattle.rules.specs.Answers.{number, refuse}
+use Rattle.game.specs.View.{noPoint}
+use Rattle.checking.specs.declared.superko.Told.{Told}
+use Rattle.checking.specs.declared.superko.Told.the-variants.{Answer, IfRecorded}
+
+-- the ko point's number is that of the point
+unfoldable pub atKo : ℕ → ℕ → Bool
+atKo ko p = not (eqb ko noPoint) && eqb p ko
+
+-- the superko test
+unfoldable pub superkoTold : Bool → Bool → ℕ → Told
+superkoTold captures ko records =
+    cond (ltb 2 records && captures) (cond ko (Answer (number answers.SuperKo)) IfRecorded) (Answer (number answers.Accepted))
+
+-- the four tests by the flags
+unfoldable pub toldOf : ℕ → Bool → Bool → Bool → Bool → ℕ → Told
+toldOf flags suicide ko eye captures records =
+    cond (forbids flags SUICIDE && suicide) (Answer (number answers.Suicide))
+    (cond (forbids flags KO && ko) (Answer (number answers.Ko))
+    (cond (forbids flags FILLEYE && eye) (Answer (number answers.FillEye))
+    (cond (forbids flags SUPERKO) (superkoTold captures ko records) (Answer (number answers.Accepted)))))
+
+-- the number that is answered, where it is known whether the board that the stone leaves is recorded
+abbrev pub settled : Told → Bool → ℕ
+settled (Answer n) again = n
+settled IfRecorded again = number (refuse answers.SuperKo again)
+
+-- the records decide
+abbrev pub undecided : Told → Bool
+undecided (Answer n) = false
+undecided IfRecorded = true

@@ -1,0 +1,75 @@
+// What a stone of the player to move is answered at a point: on the board, empty, and the four tests by the flags.
+use crate::refusal::told;
+use crate::superko::Told;
+use crate::superko::repeats;
+use chains::group::index;
+use game::calls::player_of;
+use game::state::Game;
+use game::state::NO_POINT;
+use history::packing::colour_at;
+use history::packing::colours_of;
+use legality::look::near;
+use points::answers::ACCEPTED;
+use points::answers::OFF_BOARD;
+use points::answers::POINT_NOT_EMPTY;
+use points::answers::SUPER_KO;
+use points::coord::is_coord_valid;
+use points::coord::two_to_1dim;
+use points::stones::EMPTY;
+ghost use mathlib.Core.Path.{_≡_};
+ghost use lib.ListN.{length};
+ghost use Rattle.rules.specs.Answers.{number};
+ghost use Rattle.rules.specs.Calls.{forbiddenAnswer, pointAnswer};
+ghost use Rattle.game.specs.View.{viewOf, TrueState, RoomIn};
+ghost use Rattle.checking.specs.Told.{atKo};
+ghost use Rattle.checking.specs.Asking.{Asking};
+
+pub fn is_ko_point(ko: u16, point: usize) -> bool
+    ensures { λ r. ⌜ r ≡ atKo ko point ⌝ }
+{
+    ko != NO_POINT && point == index(ko)
+}
+
+// The answer at an empty point of the board.
+fn forbidden_answer(game: Game, history: &[u8], flags: u8, point: usize) -> u8
+    requires { ⌜ Asking game (length (now history)) point ⌝ }
+    ensures { λ r. ⌜ r ≡ number (forbiddenAnswer (viewOf game) (now (history .entry)) flags point) ⌝ }
+{
+    let board = game.board;
+    let colours = colours_of(board);
+    let answer = told(
+        near(board, point),
+        &colours,
+        board.height,
+        board.width,
+        point,
+        player_of(game.turn),
+        is_ko_point(game.ko, point),
+        game.records,
+        flags,
+    );
+    let Told::Answer(number) = answer else {
+        if repeats(game, history, point) {
+            return SUPER_KO;
+        }
+        return ACCEPTED;
+    };
+    number
+}
+
+// The answer of a true state whose history was judged too.
+pub fn point_answer(game: Game, history: &[u8], flags: u8, row: u8, column: u8) -> u8
+    requires { ⌜ TrueState game × RoomIn game (length (now history)) ⌝ }
+    ensures { λ r. ⌜ r ≡ number (pointAnswer (viewOf game) (now (history .entry)) flags row column) ⌝ }
+{
+    let board = game.board;
+    if !is_coord_valid(board.height, board.width, row, column) {
+        return OFF_BOARD;
+    }
+    let point = two_to_1dim(board.width, row, column);
+    let colours = colours_of(board);
+    if colour_at(&colours, point) != EMPTY {
+        return POINT_NOT_EMPTY;
+    }
+    forbidden_answer(game, history, flags, point)
+}

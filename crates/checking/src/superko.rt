@@ -1,0 +1,56 @@
+// The superko test. Only a capture brings a board back, so only there is the stone laid on a copy and the board looked for.
+use game::calls::player_of;
+use game::state::Game;
+use history::lent::is_recorded;
+use history::packing::record_of;
+use laying::lay::lay;
+use legality::near::Near;
+use legality::near::is_ko;
+use legality::near::will_capture;
+use points::answers::ACCEPTED;
+use points::answers::SUPER_KO;
+ghost use mathlib.Core.Bool.{not, _&&_};
+ghost use mathlib.Core.Path.{_≡_};
+ghost use lib.ListN.{length};
+ghost use Rattle.rules.specs.Lists.{any};
+ghost use Rattle.rules.specs.Colours.{other};
+ghost use Rattle.rules.specs.Records.{recorded};
+ghost use Rattle.rules.specs.Calls.{resulting};
+ghost use Rattle.legality.specs.Near.{besides, caught, catchesMore};
+ghost use Rattle.game.specs.View.{viewOf};
+ghost use Rattle.checking.specs.Told.{superkoTold};
+ghost use Rattle.checking.specs.Asking.{Repeating};
+
+// What is told of a point before any stone is laid: the number that is answered, or that the records decide, between 0 and 8.
+pub enum Told {
+    Answer(u8),
+    IfRecorded,
+}
+
+// The superko test, up to where the stone would have to be laid.
+pub fn superko_told(near: Near, colour: u8, at_ko_point: bool, records: usize) -> Told
+    ensures { λ r. ⌜ r ≡ superkoTold (any (caught (other colour)) (besides near)) («at_ko_point» && not (any catchesMore (besides near))) records ⌝ }
+{
+    if records <= 2 {
+        return Told::Answer(ACCEPTED);
+    }
+    if !will_capture(near, colour) {
+        return Told::Answer(ACCEPTED);
+    }
+    if is_ko(near, at_ko_point) {
+        return Told::Answer(SUPER_KO);
+    }
+    Told::IfRecorded
+}
+
+// The board that the stone would leave is among the records.
+pub fn repeats(game: Game, history: &[u8], point: usize) -> bool
+    requires { ⌜ Repeating game (length (now history)) point ⌝ }
+    ensures { λ r. ⌜ r ≡ recorded (now (history .entry)) (game .records) (resulting (viewOf game) point) ⌝ }
+{
+    let board = game.board;
+    let laid = lay(board, point, player_of(game.turn), game.flags);
+    let after = laid.board;
+    let bytes = record_of(after);
+    is_recorded(history, game.records, &bytes)
+}
