@@ -1,3 +1,4 @@
 -- What is proved about the definitions.
 pub mod Told
 pub mod Asking
+pub mod Promise

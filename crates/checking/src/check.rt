@@ -1,0 +1,31 @@
+// The check of a point, by the names of the crate's game.rs. It lays no stone, so no pause is asked for, as in the crate.
+use crate::point::point_answer;
+use game::judge::judge_with;
+use game::state::Game;
+use points::answers::BAD_FLAGS;
+use points::answers::DAMAGED;
+use points::sizes::MAX_FLAGS;
+ghost use lib.ListN.{length};
+ghost use Rattle.rules.specs.Calls.{checkAnswer};
+ghost use Rattle.game.specs.View.{viewOf, TrueState, RoomIn};
+ghost use Rattle.checking.specs.Promise.{Checked};
+
+// By given flags.
+pub fn check_point_by(game: Game, history: &[u8], flags: u8, row: u8, column: u8) -> u8
+    ensures { λ r. ⌜ Checked (TrueState game × RoomIn game (length (now (history .entry)))) (checkAnswer (viewOf game) (now (history .entry)) flags row column) r ⌝ }
+{
+    if !judge_with(game, history.len()) {
+        return DAMAGED;
+    }
+    if MAX_FLAGS < flags {
+        return BAD_FLAGS;
+    }
+    point_answer(game, history, flags, row, column)
+}
+
+// By the flags of the game.
+pub fn check_point(game: Game, history: &[u8], row: u8, column: u8) -> u8
+    ensures { λ r. ⌜ Checked (TrueState game × RoomIn game (length (now (history .entry)))) (checkAnswer (viewOf game) (now (history .entry)) (game .flags) row column) r ⌝ }
+{
+    check_point_by(game, history, game.flags, row, column)
+}
