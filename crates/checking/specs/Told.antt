@@ -4,7 +4,7 @@ use Prim.Native.Nat.{ℕ}
 use lib.Dec.{eqb, ltb}
 use Rattle.rules.specs.Flags.{KO, SUICIDE, FILLEYE, SUPERKO, forbids}
 use Rattle.rules.specs.Answers as answers
-use Rattle.rules.specs.Answers.{number, refuse}
+use Rattle.rules.specs.Answers.{number, accepts, refuse, _then_}
 use Rattle.game.specs.View.{noPoint}
 use Rattle.checking.specs.declared.superko.Told.{Told}
 use Rattle.checking.specs.declared.superko.Told.the-variants.{Answer, IfRecorded}
@@ -18,13 +18,15 @@ unfoldable pub superkoTold : Bool → Bool → ℕ → Told
 superkoTold captures ko records =
     cond (ltb 2 records && captures) (cond ko (Answer (number answers.SuperKo)) IfRecorded) (Answer (number answers.Accepted))
 
+-- the first of the other three that refuses
+unfoldable pub firstRefusal : Bool → Bool → Bool → answers.Answer
+firstRefusal suicide ko eye = refuse answers.Suicide suicide then refuse answers.Ko ko then refuse answers.FillEye eye
+
 -- the four tests by the flags
 unfoldable pub toldOf : ℕ → Bool → Bool → Bool → Bool → ℕ → Told
 toldOf flags suicide ko eye captures records =
-    cond (forbids flags SUICIDE && suicide) (Answer (number answers.Suicide))
-    (cond (forbids flags KO && ko) (Answer (number answers.Ko))
-    (cond (forbids flags FILLEYE && eye) (Answer (number answers.FillEye))
-    (cond (forbids flags SUPERKO) (superkoTold captures ko records) (Answer (number answers.Accepted)))))
+    let first = firstRefusal (forbids flags SUICIDE && suicide) (forbids flags KO && ko) (forbids flags FILLEYE && eye) in
+    cond (accepts first) (cond (forbids flags SUPERKO) (superkoTold captures ko records) (Answer (number answers.Accepted))) (Answer (number first))
 
 -- the number that is answered, where it is known whether the board that the stone leaves is recorded
 abbrev pub settled : Told → Bool → ℕ

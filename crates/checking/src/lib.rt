@@ -2,4 +2,5 @@
 pub mod check;
 pub mod point;
 pub mod refusal;
+pub mod spot;
 pub mod superko;

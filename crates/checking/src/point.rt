@@ -1,21 +1,19 @@
 // What a stone of the player to move is answered at a point: on the board, empty, and the four tests by the flags.
 use crate::refusal::told;
+use crate::spot::Spot;
+use crate::spot::spot_at;
 use crate::superko::Told;
 use crate::superko::repeats;
 use chains::group::index;
 use game::calls::player_of;
 use game::state::Game;
 use game::state::NO_POINT;
-use history::packing::colour_at;
 use history::packing::colours_of;
 use legality::look::near;
 use points::answers::ACCEPTED;
 use points::answers::OFF_BOARD;
 use points::answers::POINT_NOT_EMPTY;
 use points::answers::SUPER_KO;
-use points::coord::is_coord_valid;
-use points::coord::two_to_1dim;
-use points::stones::EMPTY;
 ghost use mathlib.Core.Path.{_≡_};
 ghost use lib.ListN.{length};
 ghost use Rattle.rules.specs.Answers.{number};
@@ -62,14 +60,10 @@ pub fn point_answer(game: Game, history: &[u8], flags: u8, row: u8, column: u8) 
     requires { ⌜ TrueState game × RoomIn game (length (now history)) ⌝ }
     ensures { λ r. ⌜ r ≡ number (pointAnswer (viewOf game) (now (history .entry)) flags row column) ⌝ }
 {
-    let board = game.board;
-    if !is_coord_valid(board.height, board.width, row, column) {
-        return OFF_BOARD;
+    let spot = spot_at(game.board, row, column);
+    match spot {
+        Spot::Off => OFF_BOARD,
+        Spot::Stone => POINT_NOT_EMPTY,
+        Spot::Empty(point) => forbidden_answer(game, history, flags, point),
     }
-    let point = two_to_1dim(board.width, row, column);
-    let colours = colours_of(board);
-    if colour_at(&colours, point) != EMPTY {
-        return POINT_NOT_EMPTY;
-    }
-    forbidden_answer(game, history, flags, point)
 }

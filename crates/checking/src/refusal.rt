@@ -16,11 +16,12 @@ ghost use lib.ListN.{length};
 ghost use Rattle.rules.specs.Sizes.{maxArea};
 ghost use Rattle.rules.specs.Lists.{any};
 ghost use Rattle.rules.specs.Colours.{other};
+ghost use Rattle.rules.specs.Answers.{number};
 ghost use Rattle.rules.specs.Flags as flag;
 ghost use Rattle.rules.specs.Flags.{forbids};
 ghost use Rattle.rules.specs.Tests.{eye};
 ghost use Rattle.legality.specs.Near.{besides, caught, catchesMore, saves};
-ghost use Rattle.checking.specs.Told.{toldOf};
+ghost use Rattle.checking.specs.Told.{firstRefusal, toldOf};
 
 fn refuses_suicide(near: Near, colour: u8, flags: u8) -> bool
     ensures { λ r. ⌜ r ≡ forbids flags flag.SUICIDE && not (any (saves colour) (besides near)) ⌝ }
@@ -48,7 +49,23 @@ fn refuses_eye(
     flags / 4 % 2 == 1 && is_eye(colours, height, width, point, colour)
 }
 
-// What the four tests tell of an empty point of the board, in the order of 01.
+// The first of the three tests that refuses, in the order of 01.
+fn first_refusal(suicide: bool, ko: bool, eye: bool) -> u8
+    ensures { λ r. ⌜ r ≡ number (firstRefusal suicide ko eye) ⌝ }
+{
+    if suicide {
+        return SUICIDE;
+    }
+    if ko {
+        return KO;
+    }
+    if eye {
+        return FILL_EYE;
+    }
+    ACCEPTED
+}
+
+// What the four tests tell of an empty point of the board.
 pub fn told(
     near: Near,
     colours: &[u8; MAX_AREA],
@@ -63,14 +80,13 @@ pub fn told(
     requires { ⌜ length (now colours) ≡ maxArea ⌝ }
     ensures { λ r. ⌜ r ≡ toldOf flags (not (any (saves colour) (besides near))) («at_ko_point» && not (any catchesMore (besides near))) (eye height width (now (colours .entry)) colour point) (any (caught (other colour)) (besides near)) records ⌝ }
 {
-    if refuses_suicide(near, colour, flags) {
-        return Told::Answer(SUICIDE);
-    }
-    if refuses_ko(near, at_ko_point, flags) {
-        return Told::Answer(KO);
-    }
-    if refuses_eye(colours, height, width, point, colour, flags) {
-        return Told::Answer(FILL_EYE);
+    let first = first_refusal(
+        refuses_suicide(near, colour, flags),
+        refuses_ko(near, at_ko_point, flags),
+        refuses_eye(colours, height, width, point, colour, flags),
+    );
+    if first != ACCEPTED {
+        return Told::Answer(first);
     }
     if flags / 8 % 2 != 1 {
         return Told::Answer(ACCEPTED);

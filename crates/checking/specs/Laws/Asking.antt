@@ -3,29 +3,27 @@ use mathlib.Core.Bool.{Bool, true, false, cond, not, _&&_}
 use mathlib.Core.List.{List}
 use mathlib.Core.Option.{none, some}
 use mathlib.Core.Path.{_≡_, refl, sym, ap, _∙_, subst}
-use mathlib.Core.Logic.{_≢_}
-use Prim.Native.Nat.{ℕ, _≤_, _<_}
+use Prim.Native.Nat.{ℕ, _≤_}
 use native.Mathlib.Omega.{arith}
-use lib.Dec.{eqb, ltb}
+use lib.Dec.{eqb}
 use lib.ListN.{length}
-use borrow.Author.Tests.{not-true, not-false, eq-eqb, ne-eqb, ltb-true}
+use borrow.Author.Tests.{not-true}
 use Rattle.rules.specs.Sizes.{maxArea}
 use Rattle.rules.specs.Lists.{any}
-use Rattle.rules.specs.Points.{area, index, neighbours}
+use Rattle.rules.specs.Points.{neighbours}
 use Rattle.rules.specs.Colours.{empty, other, at}
 use Rattle.rules.specs.Records.{recorded}
 use Rattle.rules.specs.Flags.{SUICIDE, forbids}
 use Rattle.rules.specs.Tests.{inAtari, suicide, isKoPoint, ko, eye, captures, superko}
 use Rattle.rules.specs.Game.{Player}
 use Rattle.rules.specs.Answers.{OffBoard, PointNotEmpty, number}
-use Rattle.rules.specs.Calls.{outside, offBoard, taken, resulting, forbiddenAnswer, pointAnswer}
-use Rattle.rules.specs.Laws.Lists.{and-left, and-right, not-yes, not-both}
-use Rattle.rules.specs.Laws.Points.{index-on}
+use Rattle.rules.specs.Calls.{offBoard, taken, resulting, forbiddenAnswer, pointAnswer}
+use Rattle.rules.specs.Laws.Lists.{and-right, not-yes, not-both}
 use Rattle.board.specs.declared.goban.Board.{Board}
 use Rattle.board.specs.Board.{coloursOf}
 use Rattle.board.specs.True.{TrueBoard}
 use Rattle.board.specs.Laws.Board.{area-fits, length-colours}
-use Rattle.listing.specs.Laws.Answers.{refused-then, passed-then, off-not-on}
+use Rattle.listing.specs.Laws.Answers.{refused-then, passed-then}
 use Rattle.laying.specs.Laying.{Laying}
 use Rattle.history.specs.Packing.{onLargest}
 use Rattle.history.specs.Laws.Packing.{at-onLargest}
@@ -34,11 +32,15 @@ use Rattle.legality.specs.Near.{nearOf, besides, saves, catchesMore, caught}
 use Rattle.legality.specs.Laws.Near.{suicide-near, ko-near, captures-near}
 use Rattle.legality.specs.Laws.Eye.{eye-same}
 use Rattle.game.specs.declared.state.Game.{Game}
-use Rattle.game.specs.View.{noPoint, turnOf, koOf, viewOf}
+use Rattle.game.specs.View.{noPoint, turnOf, koOf, viewOf, TrueState, RoomIn}
 use Rattle.game.specs.Laws.View.{turn-player}
+use Rattle.checking.specs.declared.spot.Spot.{Spot}
+use Rattle.checking.specs.declared.spot.Spot.the-variants.{Off, Stone, Empty}
 use Rattle.checking.specs.declared.superko.Told.{Told}
+use Rattle.checking.specs.Spot.{spotOf}
 use Rattle.checking.specs.Told.{atKo, toldOf, settled, undecided}
 use Rattle.checking.specs.Asking.{Asking, Repeating}
+use Rattle.checking.specs.Laws.Spot.{Free, off-outside, stone-taken, empty-free, free-on, free-empty}
 use Rattle.checking.specs.Laws.Told.{told-settled, told-captures}
 
 -- ---- A capture may be laid
@@ -76,40 +78,33 @@ colours-fit b is = rw (length-colours b) (area-fits (is .table .size))
 
 -- ---- A point of the board, and whether it is empty
 
-module _ (g : Game) (bytes : List ℕ) (flags r c : ℕ) (valid : Bool) (tested : valid ≡ ltb r (g .board .height) && ltb c (g .board .width)) where
-  off : offBoard (viewOf g) r c ≡ not valid
-  unfolding offBoard outside viewOf
-  off = off-not-on (g .board .height) (g .board .width) r c ∙ ap not (sym tested)
+module _ (g : Game) (bytes : List ℕ) (flags r c : ℕ) (s : Spot) (found : s ≡ spotOf (g .board .height) (g .board .width) (coloursOf (g .board)) r c) where
+  abbrev said : ℕ
+  said = number (pointAnswer (viewOf g) bytes flags r c)
 
-  pub point-outside : not valid ≡ true → 5 ≡ number (pointAnswer (viewOf g) bytes flags r c)
-  unfolding pointAnswer number
-  point-outside e = sym (refused-then OffBoard _ (λ (z : _≡_ {A = ℕ} 5 0). omega arith) (off ∙ e))
+  pub off-answer : s ≡ Off → 5 ≡ said
+  unfolding pointAnswer offBoard viewOf number
+  off-answer e = sym (refused-then OffBoard _ (λ (z : _≡_ {A = ℕ} 5 0). omega arith) (off-outside _ _ _ r c (sym found ∙ e)))
 
-  module _ (inside : not valid ≡ false) (p : ℕ) (here : p ≡ index (g .board .width) r c) where
-    pub point-on : p < area (g .board .height) (g .board .width)
-    point-on =
-        let both : ltb r (g .board .height) && ltb c (g .board .width) ≡ true = sym tested ∙ not-false valid inside in
-        subst (λ (k : ℕ). k < area (g .board .height) (g .board .width)) (sym here)
-        (index-on (ltb-true r (g .board .height) (and-left _ _ both)) (ltb-true c (g .board .width) (and-right (ltb r (g .board .height)) _ both)))
+  pub stone-answer : s ≡ Stone → 6 ≡ said
+  unfolding pointAnswer offBoard taken viewOf number
+  stone-answer e =
+      let (on, stone) = stone-taken _ _ _ r c (sym found ∙ e) in
+      sym (passed-then OffBoard _ on ∙ refused-then PointNotEmpty _ (λ (z : _≡_ {A = ℕ} 6 0). omega arith) (ap not stone))
 
-    pub point-taken : at (coloursOf (g .board)) p ≢ empty → 6 ≡ number (pointAnswer (viewOf g) bytes flags r c)
-    unfolding pointAnswer taken viewOf number
-    point-taken n =
-        sym
-        (passed-then OffBoard _ (off ∙ inside)
-        ∙ refused-then PointNotEmpty _ (λ (z : _≡_ {A = ℕ} 6 0). omega arith) (ap not (ne-eqb _ empty (λ z. n (ap (at (coloursOf (g .board))) here ∙ z)))))
+  module _ (p : ℕ) (e : s ≡ Empty p) where
+    free : Free (g .board .height) (g .board .width) (coloursOf (g .board)) r c p
+    free = empty-free _ _ _ r c p (sym found ∙ e)
 
-    pub point-open : at (coloursOf (g .board)) p ≡ empty → number (forbiddenAnswer (viewOf g) bytes flags p) ≡ number (pointAnswer (viewOf g) bytes flags r c)
-    unfolding pointAnswer taken viewOf
-    point-open e =
-        ap (λ (q : ℕ). number (forbiddenAnswer (viewOf g) bytes flags q)) here
-        ∙ sym
-        (passed-then OffBoard _ (off ∙ inside)
-        ∙ passed-then PointNotEmpty _ (ap not (eq-eqb _ empty (ap (at (coloursOf (g .board))) (sym here) ∙ e))))
+    pub empty-answer : number (forbiddenAnswer (viewOf g) bytes flags p) ≡ said
+    unfolding pointAnswer offBoard taken viewOf
+    empty-answer =
+        ap (λ (q : ℕ). number (forbiddenAnswer (viewOf g) bytes flags q)) (free .here)
+        ∙ sym (passed-then OffBoard _ (free .on) ∙ passed-then PointNotEmpty _ (ap not (free .vacant)))
 
--- the colours of a true board, as they are read
-pub colour-read : (b : Board) → TrueBoard b → (cs : List ℕ) → cs ≡ onLargest (coloursOf b) → (p x : ℕ) → x ≡ at cs p → x ≡ at (coloursOf b) p
-colour-read b is cs seen p x e = e ∙ ap (λ (l : List ℕ). at l p) seen ∙ at-onLargest (coloursOf b) (colours-fit b is) p
+    pub empty-asking : (n : ℕ) → TrueState g → RoomIn g n → Asking g n p
+    empty-asking n state room =
+        record { state = state; room = room; on = free-on _ _ _ r c p free; empty = free-empty _ _ _ r c p free }
 
 -- ---- What the tests tell
 

@@ -1,17 +1,17 @@
 -- Laws of Told: what the tests tell settles to the rules' answer, and the records decide only where the stone captures.
 use mathlib.Core.Bool.{Bool, true, false, cond, not, _&&_, _||_}
 use mathlib.Core.Path.{_≡_, refl, sym, ap, _∙_}
-use mathlib.Core.Logic.{⊎-elim}
+use mathlib.Core.Logic.{_≢_, ⊎-elim}
 use Prim.Native.Nat.{ℕ}
-use lib.Dec.{eqb, ltb}
-use borrow.Author.Tests.{eq-eqb, ne-eqb}
+use lib.Dec.{ltb}
 use Rattle.rules.specs.Flags.{KO, SUICIDE, FILLEYE, SUPERKO, forbids}
 use Rattle.rules.specs.Answers as answers
 use Rattle.rules.specs.Answers.{number, accepts, refuse, _then_}
-use Rattle.rules.specs.Laws.Lists.{decided, not-yes, not-both}
+use Rattle.rules.specs.Laws.Lists.{decided, not-both}
+use Rattle.listing.specs.Laws.Answers.{accepts-zero, refuses-other}
 use Rattle.checking.specs.declared.superko.Told.{Told}
 use Rattle.checking.specs.declared.superko.Told.the-variants.{Answer, IfRecorded}
-use Rattle.checking.specs.Told.{superkoTold, toldOf, settled, undecided}
+use Rattle.checking.specs.Told.{superkoTold, firstRefusal, toldOf, settled, undecided}
 
 -- ---- What it settles to
 
@@ -37,16 +37,13 @@ pub told-settled :
     then refuse answers.Ko (forbids flags KO && ko)
     then refuse answers.FillEye (forbids flags FILLEYE && eye)
     then refuse answers.SuperKo (forbids flags SUPERKO && (ltb 2 records && captures && (ko || again))))
-unfolding toldOf _then_ accepts refuse number
+unfolding toldOf firstRefusal _then_ accepts refuse number
 told-settled flags suicide ko eye captures records again =
     go (forbids flags SUICIDE && suicide) (forbids flags KO && ko) (forbids flags FILLEYE && eye) (forbids flags SUPERKO)
     (superkoTold captures ko records) (ltb 2 records && captures && (ko || again)) (superko-settled captures ko records again)
   where
     go : (a b c d : Bool) (last : Told) (test : Bool) → settled last again ≡ number (refuse answers.SuperKo test) →
-        settled
-        (cond a (Answer (number answers.Suicide))
-        (cond b (Answer (number answers.Ko)) (cond c (Answer (number answers.FillEye)) (cond d last (Answer (number answers.Accepted))))))
-        again
+        settled (cond (accepts (firstRefusal a b c)) (cond d last (Answer 0)) (Answer (number (firstRefusal a b c)))) again
         ≡ number (refuse answers.Suicide a then refuse answers.Ko b then refuse answers.FillEye c then refuse answers.SuperKo (d && test))
     go true b c d last test e = refl
     go false true c d last test e = refl
@@ -54,27 +51,56 @@ told-settled flags suicide ko eye captures records again =
     go false false false false last test e = refl
     go false false false true last test e = e
 
+-- ---- As it is told
+
+module _ (flags : ℕ) (suicide ko eye captures : Bool) (records first : ℕ)
+    (its : first ≡ number (firstRefusal (forbids flags SUICIDE && suicide) (forbids flags KO && ko) (forbids flags FILLEYE && eye))) where
+  abbrev answer : answers.Answer
+  answer = firstRefusal (forbids flags SUICIDE && suicide) (forbids flags KO && ko) (forbids flags FILLEYE && eye)
+
+  abbrev last : Told
+  last = cond (forbids flags SUPERKO) (superkoTold captures ko records) (Answer (number answers.Accepted))
+
+  pub told-refused : first ≢ 0 → Answer first ≡ toldOf flags suicide ko eye captures records
+  unfolding toldOf
+  told-refused n = ap Answer its ∙ sym (ap (λ (t : Bool). cond t last (Answer (number answer))) (refuses-other answer (λ z. n (its ∙ z))))
+
+  module _ (passed : first ≡ 0) where
+    past : toldOf flags suicide ko eye captures records ≡ last
+    unfolding toldOf
+    past = ap (λ (t : Bool). cond t last (Answer (number answer))) (accepts-zero answer (sym its ∙ passed))
+
+    pub told-free : forbids flags SUPERKO ≡ false → Answer 0 ≡ toldOf flags suicide ko eye captures records
+    unfolding number
+    told-free e = sym (past ∙ ap (λ (t : Bool). cond t (superkoTold captures ko records) (Answer 0)) e)
+
+    pub told-superko : forbids flags SUPERKO ≡ true → superkoTold captures ko records ≡ toldOf flags suicide ko eye captures records
+    told-superko e = sym (past ∙ ap (λ (t : Bool). cond t (superkoTold captures ko records) (Answer (number answers.Accepted))) e)
+
 -- ---- Where the records decide, the stone captures
 
 told-silent : (flags : ℕ) (suicide ko eye : Bool) (records : ℕ) → undecided (toldOf flags suicide ko eye false records) ≡ false
 unfolding toldOf superkoTold
 told-silent flags suicide ko eye records =
-    go (forbids flags SUICIDE && suicide) (forbids flags KO && ko) (forbids flags FILLEYE && eye) (forbids flags SUPERKO) (ltb 2 records)
+    go (firstRefusal (forbids flags SUICIDE && suicide) (forbids flags KO && ko) (forbids flags FILLEYE && eye)) (forbids flags SUPERKO) (ltb 2 records)
   where
-    go : (a b c d many : Bool) →
+    go : (first : answers.Answer) (d many : Bool) →
         undecided
-        (cond a (Answer (number answers.Suicide))
-        (cond b (Answer (number answers.Ko))
-        (cond c (Answer (number answers.FillEye))
+        (cond (accepts first)
         (cond d (cond (many && false) (cond ko (Answer (number answers.SuperKo)) IfRecorded) (Answer (number answers.Accepted)))
-        (Answer (number answers.Accepted))))))
+        (Answer (number answers.Accepted)))
+        (Answer (number first)))
         ≡ false
-    go true b c d many = refl
-    go false true c d many = refl
-    go false false true d many = refl
-    go false false false false many = refl
-    go false false false true false = refl
-    go false false false true true = refl
+    go first d many = ⊎-elim (λ (e : accepts first ≡ true). rw e (rest d many)) (λ (e : accepts first ≡ false). rw e) (decided (accepts first))
+      where
+        rest : (d many : Bool) →
+            undecided
+            (cond d (cond (many && false) (cond ko (Answer (number answers.SuperKo)) IfRecorded) (Answer (number answers.Accepted)))
+            (Answer (number answers.Accepted)))
+            ≡ false
+        rest false many = refl
+        rest true false = refl
+        rest true true = refl
 
 pub told-captures :
     (flags : ℕ) (suicide ko eye captures : Bool) (records : ℕ) → undecided (toldOf flags suicide ko eye captures records) ≡ true → captures ≡ true

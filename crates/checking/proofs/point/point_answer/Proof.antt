@@ -1,68 +1,48 @@
 -- `point_answer`: off the board, not empty, or what the tests answer.
-use mathlib.Core.Path.{_≡_, sym, _∙_}
+use mathlib.Core.Path.{_∙_}
+use Rattle.checking.specs.Laws.Asking.{off-answer, stone-answer, empty-answer, empty-asking}
 use borrow.Author.Needs.{needs}
-use Rattle.rules.specs.Colours.{at}
-use Rattle.board.specs.Board.{coloursOf}
-use Rattle.checking.specs.Laws.Asking.{point-outside, point-on, point-taken, point-open, colour-read}
 use Rattle.checking.proofs.point.point_answer.Statement.{statement}
 use Rattle.checking.proofs.point.point_answer.Tie as tie
 
--- the colour at the point
-read : (c : tie.After-colour-at)
-    → let point = c .before .before .before in
-    c .colour-at .result ≡ at (coloursOf (point .before .before .before .before .before .args .game .board)) (point .two-to-1dim .result)
-read c =
-    let seen = c .before .before in
-    let start = seen .before .before .before .before .before .before in
-    colour-read (start .args .game .board) (start .pre .0 .board) _ (seen .colours-of .ensures) _ _ (c .colour-at .ensures)
+spot-at-requires : tie.Need-spot-at-requires
+spot-at-requires c κs = c .before .pre .0 .board
 
-is-coord-valid-requires : tie.Need-is-coord-valid-requires
-is-coord-valid-requires c κs = search needs
+enum-told : tie.Need-enum-told
+enum-told c = search needs
 
-returns : tie.Need-returns
-returns c = point-outside _ _ _ _ _ _ (c .before .is-coord-valid .ensures) (c .if1 .taken)
+enum-told-2 : tie.Need-enum-told-2
+enum-told-2 c = search needs
 
-two-to-1dim-requires : tie.Need-two-to-1dim-requires
-two-to-1dim-requires c κs = search needs
-
-colours-of-requires : tie.Need-colours-of-requires
-colours-of-requires c κs = search needs
-
-colour-at-requires : tie.Need-colour-at-requires
-colour-at-requires c κs = search needs
-
-returns-2 : tie.Need-returns-2
-returns-2 c =
-    let point = c .before .before .before .before in
-    point-taken _ _ _ _ _ _ (point .before .before .is-coord-valid .ensures) (point .before .if1 .left) _ (point .two-to-1dim .ensures) (λ e. c .if2 .taken (read (c .before) ∙ e))
+enum-known-spot : tie.Need-enum-known-spot
+enum-known-spot c = search needs
 
 forbidden-answer-requires : tie.Need-forbidden-answer-requires
 forbidden-answer-requires c κs =
-    let point = c .before .before .before .before in
-    let start = point .before .before .before .before .before in
-    record {
-      state = start .pre .0;
-      room = start .pre .1;
-      on = point-on (start .args .game) (start .args .history .now) (start .args .flags) _ _ _ (point .before .before .is-coord-valid .ensures) (point .before .if1 .left) _ (point .two-to-1dim .ensures);
-      empty = sym (read (c .before)) ∙ c .if2 .left;
-    }
+    let found = c .before .before .before in
+    let start = found .before .before in
+    empty-asking (start .args .game) (start .args .history .now) (start .args .flags) _ _ _ (found .spot-at .ensures) _ (c .before .spot .given .1) _ (start .pre .0) (start .pre .1)
+
+returns : tie.Need-returns
+returns c = off-answer _ _ _ _ _ _ (c .before .before .spot-at .ensures) (c .enum-told .given .1)
+
+returns-2 : tie.Need-returns-2
+returns-2 c = stone-answer _ _ _ _ _ _ (c .before .before .spot-at .ensures) (c .enum-told2 .given .1)
 
 returns-3 : tie.Need-returns-3
 returns-3 c =
-    let coloured = c .before .before in
-    let point = coloured .before .before .before in
-    c .forbidden-answer .ensures
-    ∙ point-open _ _ _ _ _ _ (point .before .before .is-coord-valid .ensures) (point .before .if1 .left) _ (point .two-to-1dim .ensures) (sym (read coloured) ∙ c .before .if2 .left)
+    let matched = c .before .before in
+    c .forbidden-answer .ensures ∙ empty-answer _ _ _ _ _ _ (matched .before .before .spot-at .ensures) _ (matched .spot .given .1)
 
 pub point-answer-spec : {M : Type 1} → statement M
 point-answer-spec =
     tie.close
     (tie.spec
-    is-coord-valid-requires
-    returns
-    two-to-1dim-requires
-    colours-of-requires
-    colour-at-requires
-    returns-2
+    spot-at-requires
+    enum-told
+    enum-told-2
+    enum-known-spot
     forbidden-answer-requires
+    returns
+    returns-2
     returns-3)

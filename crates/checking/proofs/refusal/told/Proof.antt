@@ -1,69 +1,68 @@
--- `told`: the ways out are the cases of the definition.
-use mathlib.Core.Path.{sym, _∙_}
-use borrow.Author.Needs.{needs}
+-- `told`: refused by one of the three tests, or left to the fourth.
+use mathlib.Core.Bool.{not, _&&_}
+use mathlib.Core.Path.{_≡_, _∙_}
 use borrow.Author.Tests.{eq-eqb, ne-eqb}
+use Rattle.rules.specs.Lists.{any}
+use Rattle.rules.specs.Flags.{KO, SUICIDE, FILLEYE, forbids}
+use Rattle.rules.specs.Tests.{eye}
 use Rattle.rules.specs.Answers.{number}
-use Rattle.rules.specs.Flags.{forbids}
-use Rattle.checking.specs.Told.{toldOf}
+use Rattle.legality.specs.Near.{besides, saves, catchesMore}
+use Rattle.checking.specs.Told.{firstRefusal}
+use Rattle.checking.specs.Laws.Told.{told-refused, told-free, told-superko}
+use borrow.Author.Needs.{needs}
 use Rattle.checking.proofs.refusal.told.Statement.{statement}
 use Rattle.checking.proofs.refusal.told.Tie as tie
+
+-- the three tests, by what stands near
+first : (c : tie.After-first-refusal)
+    → let a = c .before .before .before .before .args in
+    c .first-refusal .result
+    ≡ number
+    (firstRefusal (forbids (a .flags) SUICIDE && not (any (saves (a .colour)) (besides (a .near))))
+    (forbids (a .flags) KO && (a .at-ko-point && not (any catchesMore (besides (a .near)))))
+    (forbids (a .flags) FILLEYE && eye (a .height) (a .width) (a .colours .now) (a .colour) (a .point)))
+first c =
+    let asked = c .before in
+    c .first-refusal .ensures
+    ∙ (λ i. number (firstRefusal (asked .before .before .refuses-suicide .ensures i) (asked .before .refuses-ko .ensures i) (asked .refuses-eye .ensures i)))
 
 refuses-suicide-requires : tie.Need-refuses-suicide-requires
 refuses-suicide-requires c κs = search needs
 
-returns : tie.Need-returns
-unfolding toldOf number
-returns c = rw (sym (c .before .refuses-suicide .ensures) ∙ c .if1 .taken)
-
 refuses-ko-requires : tie.Need-refuses-ko-requires
 refuses-ko-requires c κs = search needs
-
-returns-2 : tie.Need-returns-2
-unfolding toldOf number
-returns-2 c =
-    let first = c .before .before in
-    rw (sym (first .before .refuses-suicide .ensures) ∙ first .if1 .left, sym (c .before .refuses-ko .ensures) ∙ c .if2 .taken)
 
 refuses-eye-requires : tie.Need-refuses-eye-requires
 refuses-eye-requires c κs = search needs
 
-returns-3 : tie.Need-returns-3
-unfolding toldOf number
-returns-3 c =
-    let second = c .before .before in
-    let first = second .before .before in
-    rw (sym (first .before .refuses-suicide .ensures) ∙ first .if1 .left, sym (second .before .refuses-ko .ensures) ∙ second .if2 .left, sym (c .before .refuses-eye .ensures) ∙ c .if3 .taken)
+first-refusal-requires : tie.Need-first-refusal-requires
+first-refusal-requires c κs = search needs
 
-returns-4 : tie.Need-returns-4
-unfolding toldOf number forbids
-returns-4 c =
-    let third = c .before in
-    let second = third .before .before in
-    let first = second .before .before in
-    rw (sym (first .before .refuses-suicide .ensures) ∙ first .if1 .left, sym (second .before .refuses-ko .ensures) ∙ second .if2 .left, sym (third .before .refuses-eye .ensures) ∙ third .if3 .left, ne-eqb _ _ (c .if4 .taken))
+returns : tie.Need-returns
+returns c = told-refused _ _ _ _ _ _ _ (first (c .before)) (c .if1 .taken)
+
+returns-2 : tie.Need-returns-2
+unfolding forbids
+returns-2 c = told-free _ _ _ _ _ _ _ (first (c .before .before)) (c .before .if1 .left) (ne-eqb _ _ (c .if2 .taken))
 
 superko-told-requires : tie.Need-superko-told-requires
 superko-told-requires c κs = search needs
 
-returns-5 : tie.Need-returns-5
-unfolding toldOf number forbids
-returns-5 c =
-    let third = c .before .before in
-    let second = third .before .before in
-    let first = second .before .before in
-    rw (sym (first .before .refuses-suicide .ensures) ∙ first .if1 .left, sym (second .before .refuses-ko .ensures) ∙ second .if2 .left, sym (third .before .refuses-eye .ensures) ∙ third .if3 .left, eq-eqb _ _ (c .before .if4 .left))
-    (c .superko-told .ensures)
+returns-3 : tie.Need-returns-3
+unfolding forbids
+returns-3 c =
+    let passed = c .before .before in
+    c .superko-told .ensures ∙ told-superko _ _ _ _ _ _ _ (first (passed .before)) (passed .if1 .left) (eq-eqb _ _ (c .before .if2 .left))
 
 pub told-spec : {M : Type 1} → statement M
 told-spec =
     tie.close
     (tie.spec
     refuses-suicide-requires
-    returns
     refuses-ko-requires
-    returns-2
     refuses-eye-requires
-    returns-3
-    returns-4
+    first-refusal-requires
+    returns
+    returns-2
     superko-told-requires
-    returns-5)
+    returns-3)
