@@ -8,8 +8,8 @@ use chains::group::index;
 use game::calls::player_of;
 use game::state::Game;
 use game::state::NO_POINT;
-use history::packing::colours_of;
 use legality::look::near;
+use legality::look::seen_of;
 use points::answers::ACCEPTED;
 use points::answers::OFF_BOARD;
 use points::answers::POINT_NOT_EMPTY;
@@ -34,12 +34,17 @@ fn forbidden_answer(game: Game, history: &[u8], flags: u8, point: usize) -> u8
     ensures { λ r. ⌜ r ≡ number (forbiddenAnswer (viewOf game) (now (history .entry)) flags point) ⌝ }
 {
     let board = game.board;
-    let colours = colours_of(board);
+    let height = board.height;
+    let width = board.width;
+    let seen = seen_of(board);
+    let colours = seen.colours;
+    let liberties = seen.liberties;
+    let stones = seen.stones;
     let answer = told(
-        near(board, point),
+        near(&colours, &liberties, &stones, height, width, point),
         &colours,
-        board.height,
-        board.width,
+        height,
+        width,
         point,
         player_of(game.turn),
         is_ko_point(game.ko, point),

@@ -2,4 +2,5 @@
 pub mod Lists
 pub mod Around
 pub mod Near
+pub mod Seen
 pub mod Eye

@@ -1,19 +1,29 @@
-// What stands beside a point of a board, read once for the tests.
+// What a board shows of its points and of what stands beside one, read once for the tests. These are numbers alone, so that they can
+// be lent while the board stays where it is.
 use crate::near::Beside;
 use crate::near::Near;
 use board::goban::Board;
 use chains::group::Chain;
 use chains::group::index;
 use points::coord::neighbours;
+use points::sizes::MAX_AREA;
 use points::sizes::SLOTS;
 use points::stones::EMPTY;
 use sets::liberties::number_of_liberties;
 ghost use mathlib.Core.Path.{_≡_};
 ghost use Rattle.board.specs.Board.{coloursOf};
 ghost use Rattle.board.specs.True.{TrueBoard};
-ghost use Rattle.legality.specs.Near.{nearOf, chainSeen, nothing};
+ghost use Rattle.legality.specs.Near.{chainSeen, nothing};
+ghost use Rattle.legality.specs.Seen.{seenOf, Shows, nearIn};
 
-// What is seen of a chain from beside it.
+// Of each point the colour, and the liberties and stones of the chain there, 0 at an empty point.
+pub struct Seen {
+    pub colours: [u8; MAX_AREA],
+    pub liberties: [u16; MAX_AREA],
+    pub stones: [u16; MAX_AREA],
+}
+
+// What is seen of a chain.
 fn chain_seen(chain: Chain) -> Beside
     ensures { λ r. ⌜ r ≡ chainSeen chain ⌝ }
 {
@@ -37,35 +47,64 @@ fn nothing_seen() -> Beside
     }
 }
 
-// What stands beside the point of a true board.
-pub fn near(board: Board, point: usize) -> Near
+// What the points of a true board show, each read once; beyond the board nothing stands.
+pub fn seen_of(board: Board) -> Seen
     requires { ⌜ TrueBoard board ⌝ }
-    ensures { λ r. ⌜ r ≡ nearOf (board .height) (board .width) (coloursOf board) point ⌝ }
+    ensures { λ r. ⌜ r ≡ seenOf (board .height) (board .width) (coloursOf board) ⌝ }
 {
-    let around = neighbours(board.height, board.width, point);
-    let beside = around.points;
-    let count = around.count;
-    let mut colours = [0u8; 4];
-    let mut liberties = [0u16; 4];
-    let mut stones = [0u16; 4];
-    let mut i = 0;
-    while i < count {
-        let q = index(beside[i]);
-        let owner = index(board.owners[q]);
+    let mut colours = [EMPTY; MAX_AREA];
+    let mut liberties = [0u16; MAX_AREA];
+    let mut stones = [0u16; MAX_AREA];
+    let mut point = 0;
+    while point < MAX_AREA {
+        let owner = index(board.owners[point]);
         let mut seen = nothing_seen();
         if owner < SLOTS {
             let chain = chain_seen(board.chains[owner]);
             seen = chain;
         }
-        colours[i] = seen.colour;
-        liberties[i] = seen.liberties;
-        stones[i] = seen.stones;
+        colours[point] = seen.colour;
+        liberties[point] = seen.liberties;
+        stones[point] = seen.stones;
+        point += 1;
+    }
+    Seen {
+        colours: colours,
+        liberties: liberties,
+        stones: stones,
+    }
+}
+
+// What stands beside a point, by what is shown.
+pub fn near(
+    colours: &[u8; MAX_AREA],
+    liberties: &[u16; MAX_AREA],
+    stones: &[u16; MAX_AREA],
+    height: u8,
+    width: u8,
+    point: usize,
+) -> Near
+    requires { ⌜ Shows height width (now colours) (now liberties) (now stones) ⌝ }
+    ensures { λ r. ⌜ r ≡ nearIn height width (now (colours .entry)) (now (liberties .entry)) (now (stones .entry)) point ⌝ }
+{
+    let around = neighbours(height, width, point);
+    let beside = around.points;
+    let count = around.count;
+    let mut near_colours = [0u8; 4];
+    let mut near_liberties = [0u16; 4];
+    let mut near_stones = [0u16; 4];
+    let mut i = 0;
+    while i < count {
+        let q = index(beside[i]);
+        near_colours[i] = colours[q];
+        near_liberties[i] = liberties[q];
+        near_stones[i] = stones[q];
         i += 1;
     }
     Near {
-        count,
-        colours,
-        liberties,
-        stones,
+        count: count,
+        colours: near_colours,
+        liberties: near_liberties,
+        stones: near_stones,
     }
 }

@@ -28,8 +28,11 @@ use Rattle.laying.specs.Laying.{Laying}
 use Rattle.history.specs.Packing.{onLargest}
 use Rattle.history.specs.Laws.Packing.{at-onLargest}
 use Rattle.legality.specs.declared.near.Near.{Near}
+use Rattle.legality.specs.declared.look.Seen.{Seen}
+use Rattle.legality.specs.Seen.{seenOf, nearIn}
 use Rattle.legality.specs.Near.{nearOf, besides, saves, catchesMore, caught}
 use Rattle.legality.specs.Laws.Near.{suicide-near, ko-near, captures-near}
+use Rattle.legality.specs.Laws.Seen.{near-seen}
 use Rattle.legality.specs.Laws.Eye.{eye-same}
 use Rattle.game.specs.declared.state.Game.{Game}
 use Rattle.game.specs.View.{noPoint, turnOf, koOf, viewOf, TrueState, RoomIn}
@@ -108,10 +111,11 @@ module _ (g : Game) (bytes : List ℕ) (flags r c : ℕ) (s : Spot) (found : s �
 
 -- ---- What the tests tell
 
-module _ (g : Game) (is : TrueBoard (g .board)) (flags p : ℕ) (n : Near) (beside : n ≡ nearOf (g .board .height) (g .board .width) (coloursOf (g .board)) p)
-    (cs : List ℕ) (seen : cs ≡ onLargest (coloursOf (g .board))) (own : ℕ) (mover : own ≡ turnOf (g .turn)) (k : Bool) (at-ko : k ≡ atKo (g .ko) p)
+module _ (g : Game) (is : TrueBoard (g .board)) (flags p : ℕ) (s : Seen) (read : s ≡ seenOf (g .board .height) (g .board .width) (coloursOf (g .board)))
+    (n : Near) (near : n ≡ nearIn (g .board .height) (g .board .width) (s .colours) (s .liberties) (s .stones) p)
+    (own : ℕ) (mover : own ≡ turnOf (g .turn)) (k : Bool) (at-ko : k ≡ atKo (g .ko) p)
     (t : Told) (told :
-    t ≡ toldOf flags (not (any (saves own) (besides n))) (k && not (any catchesMore (besides n))) (eye (g .board .height) (g .board .width) cs own p)
+    t ≡ toldOf flags (not (any (saves own) (besides n))) (k && not (any catchesMore (besides n))) (eye (g .board .height) (g .board .width) (s .colours) own p)
     (any (caught (other own)) (besides n)) (g .records)) where
   abbrev h : ℕ
   h = g .board .height
@@ -122,15 +126,22 @@ module _ (g : Game) (is : TrueBoard (g .board)) (flags p : ℕ) (n : Near) (besi
   abbrev cols : List ℕ
   cols = coloursOf (g .board)
 
+  beside : n ≡ nearOf h w cols p
+  beside =
+      near
+      ∙ ap (λ (x : Seen). nearIn h w (x .colours) (x .liberties) (x .stones) p) read
+      ∙ near-seen h w cols (area-fits (is .table .size)) p
+
   own-suicide : not (any (saves own) (besides n)) ≡ suicide h w cols (turnOf (g .turn)) p
   own-suicide = suicide-near h w cols n p beside own ∙ ap (λ (c : ℕ). suicide h w cols c p) mover
 
   its-ko : k && not (any catchesMore (besides n)) ≡ ko h w cols (koOf (g .ko)) p
   its-ko = ap (λ (b : Bool). b && not (any catchesMore (besides n))) (at-ko ∙ atKo-point h w cols (g .ko) p) ∙ ko-near h w cols n p beside (koOf (g .ko))
 
-  own-eye : eye h w cs own p ≡ eye h w cols (turnOf (g .turn)) p
+  own-eye : eye h w (s .colours) own p ≡ eye h w cols (turnOf (g .turn)) p
+  unfolding seenOf onLargest
   own-eye =
-      ap (λ (l : List ℕ). eye h w l own p) seen
+      ap (λ (x : Seen). eye h w (x .colours) own p) read
       ∙ eye-same h w (onLargest cols) cols own (λ q on. at-onLargest cols (colours-fit (g .board) is) q) p
       ∙ ap (λ (c : ℕ). eye h w cols c p) mover
 

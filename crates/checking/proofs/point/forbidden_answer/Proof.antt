@@ -1,6 +1,6 @@
 -- `forbidden_answer`: what the tests tell settles to the answer, by the records where they decide.
 use mathlib.Core.Bool.{Bool}
-use mathlib.Core.Path.{_≡_, refl, sym, ap, ap₂, _∙_}
+use mathlib.Core.Path.{_≡_, refl, sym, ap, ap₂, _∙_, subst}
 use borrow.Author.Needs.{needs}
 use Rattle.rules.specs.Records.{recorded}
 use Rattle.rules.specs.Answers.{number, refuse}
@@ -8,27 +8,39 @@ use Rattle.rules.specs.Calls.{resulting, forbiddenAnswer}
 use Rattle.game.specs.View.{viewOf}
 use Rattle.checking.specs.declared.superko.Told.{Told}
 use Rattle.checking.specs.Told.{settled, undecided}
+use Rattle.board.specs.Board.{coloursOf}
+use Rattle.board.specs.Laws.Board.{area-fits}
+use Rattle.legality.specs.declared.look.Seen.{Seen}
+use Rattle.legality.specs.Seen.{Shows}
+use Rattle.legality.specs.Laws.Seen.{seen-shows}
 use Rattle.checking.specs.Laws.Asking.{told-forbidden, told-repeating}
 use Rattle.checking.proofs.point.forbidden_answer.Statement.{statement}
 use Rattle.checking.proofs.point.forbidden_answer.Tie as tie
 
 -- the answer, once it is known whether the board is recorded
 settles : (c : tie.After-told)
-    → let a = c .before .before .before .before .before .before .before .before .args in
+    → let start = c .before .before .before .before .before .before .before .before .before .before .before .before .before .before in
+    let a = start .args in
     settled (c .told .result) (recorded (a .history .now) (a .game .records) (resulting (viewOf (a .game)) (a .point)))
     ≡ number (forbiddenAnswer (viewOf (a .game)) (a .history .now) (a .flags) (a .point))
 settles c =
     let mover = c .before .before in
     let looked = mover .before .before in
-    let start = looked .before .before .before .before in
-    told-forbidden (start .args .game) (start .pre .state .board) (start .args .flags) (start .args .point) _ (looked .near .ensures) _ (looked .before .colours-of .ensures)
+    let seen = looked .before .before .before .before .before .before .before in
+    let start = seen .before .before .before in
+    told-forbidden (start .args .game) (start .pre .state .board) (start .args .flags) (start .args .point) _ (seen .seen-of .ensures) _ (looked .near .ensures)
     _ (mover .player-of .ensures) _ (c .before .is-ko-point .ensures) _ (c .told .ensures) (start .args .history .now)
 
-colours-of-requires : tie.Need-colours-of-requires
-colours-of-requires c κs = search needs
+seen-of-requires : tie.Need-seen-of-requires
+seen-of-requires c κs = search needs
 
 near-requires : tie.Need-near-requires
-near-requires c κs = search needs
+near-requires c κs =
+    let seen = c .before .before .before .before .before .before in
+    let start = seen .before .before .before in
+    let b = start .args .game .board in
+    subst (λ (s : Seen). Shows (b .height) (b .width) (s .colours) (s .liberties) (s .stones)) (sym (seen .seen-of .ensures))
+    (seen-shows (b .height) (b .width) (coloursOf b) (area-fits (start .pre .state .board .table .size)))
 
 player-of-requires : tie.Need-player-of-requires
 player-of-requires c κs = search needs
@@ -50,33 +62,32 @@ repeats-requires c κs =
     let told = c .before .before in
     let mover = told .before .before in
     let looked = mover .before .before in
-    let start = looked .before .before .before .before in
-    told-repeating (start .args .game) (start .pre .state .board) (start .args .flags) (start .args .point) _ (looked .near .ensures) _ (looked .before .colours-of .ensures)
+    let seen = looked .before .before .before .before .before .before .before in
+    let start = seen .before .before .before in
+    told-repeating (start .args .game) (start .pre .state .board) (start .args .flags) (start .args .point) _ (seen .seen-of .ensures) _ (looked .near .ensures)
     _ (mover .player-of .ensures) _ (told .before .is-ko-point .ensures) _ (told .told .ensures) _ (start .pre) (ap undecided (c .enum-told .given .1))
 
 returns : tie.Need-returns
 unfolding refuse number
 returns c =
-    let told = c .before .before .before .before in
-    ap₂ settled (sym (c .before .before .enum-told .given .1)) (sym (c .if1 .taken) ∙ c .before .repeats .ensures) ∙ settles told
+    ap₂ settled (sym (c .before .before .enum-told .given .1)) (sym (c .if1 .taken) ∙ c .before .repeats .ensures) ∙ settles (c .before .before .before .before)
 
 returns-2 : tie.Need-returns-2
 unfolding refuse number
 returns-2 c =
-    let told = c .before .before .before .before in
-    ap₂ settled (sym (c .before .before .enum-told .given .1)) (sym (c .if1 .left) ∙ c .before .repeats .ensures) ∙ settles told
+    ap₂ settled (sym (c .before .before .enum-told .given .1)) (sym (c .if1 .left) ∙ c .before .repeats .ensures) ∙ settles (c .before .before .before .before)
 
 returns-3 : tie.Need-returns-3
 returns-3 c =
     let told = c .before .before .before in
-    let a = told .before .before .before .before .before .before .before .before .args in
+    let a = told .before .before .before .before .before .before .before .before .before .before .before .before .before .before .args in
     ap (λ (t : Told). settled t (recorded (a .history .now) (a .game .records) (resulting (viewOf (a .game)) (a .point)))) (sym (c .before .answer .given .1)) ∙ settles told
 
 pub forbidden-answer-spec : {M : Type 1} → statement M
 forbidden-answer-spec =
     tie.close
     (tie.spec
-    colours-of-requires
+    seen-of-requires
     near-requires
     player-of-requires
     is-ko-point-requires

@@ -1,0 +1,39 @@
+-- What a board shows of its points, and what of that stands beside a point.
+use mathlib.Core.List.{List, map}
+use mathlib.Core.Path.{_≡_}
+use Prim.Native.Nat.{ℕ, _≤_}
+use lib.ListN.{length, getD}
+use Rattle.rules.specs.Sizes.{maxArea}
+use Rattle.rules.specs.Lists.{tabulate}
+use Rattle.rules.specs.Colours.{at}
+use Rattle.rules.specs.Points.{area, neighbours}
+use Rattle.rules.specs.Chain.{size, liberties}
+use Rattle.legality.specs.declared.look.Seen.{Seen}
+use Rattle.legality.specs.declared.near.Near.{Near}
+use Rattle.legality.specs.Near.{inFour, ofStone}
+
+-- at the numbers of the largest board's points
+unfoldable pub seenOf : ℕ → ℕ → List ℕ → Seen
+seenOf h w cols =
+    record {
+      colours = tabulate (at cols) 0 maxArea;
+      liberties = tabulate (ofStone cols (liberties h w cols)) 0 maxArea;
+      stones = tabulate (ofStone cols (size h w cols)) 0 maxArea;
+    }
+
+-- there is a place for each point of the board
+pub record Shows (h w : ℕ) (colours liberties stones : List ℕ) : Type 0 where
+  pub fits : area h w ≤ maxArea
+  pub coloured : length colours ≡ maxArea
+  pub breathing : length liberties ≡ maxArea
+  pub counted : length stones ≡ maxArea
+
+-- the points beside p in order, as they are shown
+unfoldable pub nearIn : ℕ → ℕ → List ℕ → List ℕ → List ℕ → ℕ → Near
+nearIn h w cs ls ss p =
+    record {
+      count = length (neighbours h w p);
+      colours = inFour (map (λ q. getD cs q 0) (neighbours h w p));
+      liberties = inFour (map (λ q. getD ls q 0) (neighbours h w p));
+      stones = inFour (map (λ q. getD ss q 0) (neighbours h w p));
+    }
