@@ -1,0 +1,90 @@
+-- Each way out is one of the promise's laws: the state is damaged, the game has begun, laying the stones refuses, or they are laid.
+use mathlib.Core.Path.{_≡_, sym}
+use native.Mathlib.Omega.{arith}
+use Prim.Native.Nat.{_≤_}
+use lib.ListN.{length}
+use borrow.Author.Tests.{not-true, not-false}
+use Rattle.rules.specs.Sizes.{maxArea}
+use Rattle.rules.specs.Answers.{number}
+use Rattle.rules.specs.Laws.Lists.{not-both}
+use Rattle.placing.specs.Placing.{spotsOf}
+use Rattle.game.specs.View.{TrueState}
+use Rattle.game.specs.Laws.Promise.{alone-damaged}
+use Rattle.playing.specs.After.{handicapGiven}
+use Rattle.playing.specs.Laws.Count.{true-few}
+use Rattle.playing.specs.Laws.Handicap.{spots-length, handicap-late, start-bare, handicap-refused, spots-few, handicap-laid}
+use borrow.Author.Needs.{needs}
+use Rattle.playing.proofs.handicap.handicap.Statement.{statement}
+use Rattle.playing.proofs.handicap.handicap.Tie as tie
+
+judged : (c : tie.Else1) → TrueState (c .before .before .before .args .game)
+judged c = c .before .judge-state .ensures .0 (not-false _ (c .if1 .left))
+
+-- the board took them all, so they are no more than its points
+few : (c : tie.Else3) → length (c .before .before .before .before .before .before .before .before .before .args .spots .now) ≤ maxArea
+few c =
+    let laid = c .before .before in
+    let open′ = laid .before .before in
+    let spots = open′ .before .before .before .before .before .args .spots .now in
+    omega (
+      arith,
+      spots-few _ (judged (open′ .before .before)) (spotsOf spots) (open′ .if2 .left) (laid .lay-handicap .result) (laid .lay-handicap .ensures) (c .if3 .left),
+      spots-length spots,
+    )
+
+judge-state-requires : tie.Need-judge-state-requires
+judge-state-requires c κs = search needs
+
+returns : tie.Need-returns
+unfolding number
+returns c = alone-damaged _ _ (λ is. not-both (c .before .judge-state .ensures .1 is) (not-true _ (c .if1 .taken)))
+
+returns-2 : tie.Need-returns-2
+unfolding number
+returns-2 c = handicap-late _ (judged (c .before .before)) _ (c .if2 .taken)
+
+lay-handicap-requires : tie.Need-lay-handicap-requires
+lay-handicap-requires c κs = start-bare _ (judged (c .before .before .before)) (c .before .if2 .left)
+
+returns-3 : tie.Need-returns-3
+returns-3 c =
+    let laid = c .before .before in
+    let open′ = laid .before .before in
+    handicap-refused _ (judged (open′ .before .before)) _ (open′ .if2 .left) (laid .lay-handicap .result) (laid .lay-handicap .ensures) (c .if3 .taken)
+
+cast-count : tie.Need-cast-count
+cast-count c = let most = few (c .before) in record { fits = omega arith }
+
+cast-t14 : tie.Need-cast-t14
+cast-t14 c = let most = few (c .before .before .before) in record { fits = omega arith }
+
+add-t15 : tie.Need-add-t15
+add-t15 c =
+    let most = few (c .before .before .before .before) in
+    let start = c .before .before .before .before .before .before .before .before in
+    let put = true-few _ (judged (start .before .before)) .1 in
+    record { fits = omega (arith, put .blacks) }
+
+returns-4 : tie.Need-returns-4
+unfolding handicapGiven
+returns-4 c =
+    let end = c .before .before .before .before in
+    let laid = end .before .before in
+    let open′ = laid .before .before in
+    let spots = open′ .before .before .before .before .before .args .spots .now in
+    handicap-laid _ (judged (open′ .before .before)) (spotsOf spots) (open′ .if2 .left) (laid .lay-handicap .result) (laid .lay-handicap .ensures) (end .if3 .left)
+    (spots-length spots)
+
+pub handicap-spec : {M : Type 1} → statement M
+handicap-spec =
+    tie.close
+    (tie.spec
+    judge-state-requires
+    returns
+    returns-2
+    lay-handicap-requires
+    returns-3
+    cast-count
+    cast-t14
+    add-t15
+    returns-4)

@@ -1,0 +1,5 @@
+-- The laws of the definitions.
+pub mod Promise
+pub mod Count
+pub mod Stone
+pub mod Handicap

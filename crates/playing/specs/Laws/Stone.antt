@@ -1,0 +1,218 @@
+-- Laws of a stone: which test refuses it, what laying it may ask of an accepted one, and that the state which the code makes shows what
+-- the rules say and is true again.
+use mathlib.Core.Path.{_≡_, refl, sym, ap, _∙_, subst}
+use mathlib.Core.Bool.{true, false, not, _&&_}
+use mathlib.Core.List.{List}
+use mathlib.Core.Logic.{_≢_}
+use mathlib.Core.Option.{some}
+use Prim.Native.Nat.{ℕ, _+_, _≤_, _<_}
+use native.Mathlib.Omega.{arith}
+use lib.Dec.{leb}
+use lib.ListN.{length}
+use borrow.Author.Tests.{eq-eqb, ne-eqb, le-leb, lt-leb}
+use Rattle.rules.specs.Sizes.{maxStones}
+use Rattle.rules.specs.Points.{area, index}
+use Rattle.rules.specs.Colours.{black, white, other}
+use Rattle.rules.specs.Move.{coloured, removed, soleOf}
+use Rattle.rules.specs.Records.{full, capacity, recordsAfter, bytesAfter}
+use Rattle.rules.specs.Answers.{Answer, Accepted, GamePaused, MoveLimit, HistoryFull, number, accepts, refuse, _then_}
+use Rattle.rules.specs.Game as rules
+use Rattle.rules.specs.Calls.{Result, paused, resulting, pointAnswer, stoneAnswer, oneIf, stoneGame, stone}
+use Rattle.rules.specs.Laws.Colours.{other-player}
+use Rattle.rules.specs.Laws.Calls.{accepted-on, accepted-empty, accepted-no-suicide}
+use Rattle.rules.specs.Laws.Keep.{stone-keeps}
+use Rattle.rules.specs.Laws.Records.{bytesAfter-length, recordsAfter-fits}
+use Rattle.points.specs.declared.coord.Place.{Place}
+use Rattle.points.specs.declared.coord.Place.the-variants.{Off, At}
+use Rattle.points.specs.Place.{placeOf, Within}
+use Rattle.board.specs.Board.{coloursOf}
+use Rattle.board.specs.Laws.Board.{area-fits}
+use Rattle.laying.specs.declared.lay.Laid.{Laid}
+use Rattle.laying.specs.Laying.{Laying, LaidOut}
+use Rattle.placing.specs.Laws.Answers.{then-refused, then-accepted, refuses, passes, test-refuses, test-passes, zero-accepts, other-refuses}
+use Rattle.history.specs.History.{Noted}
+use Rattle.game.specs.declared.state.Game.{Game}
+use Rattle.game.specs.declared.state.Tally.{Tally}
+use Rattle.game.specs.View.{noPoint, turnOf, koOf, outcomeOf, begunOf, viewOf, TrueState, RoomIn}
+use Rattle.game.specs.Laws.View.{turn-player}
+use Rattle.playing.specs.Promise.{CalledTrue}
+use Rattle.playing.specs.After.{Few, blackGone, whiteGone, HeldAfter, PutAfter, stoned}
+use Rattle.playing.specs.Laws.Promise.{true-refused, true-accepted}
+use Rattle.playing.specs.Laws.Count.{turn-same, black-gone, white-gone}
+
+-- ---- The order of the tests
+
+module _ (g : rules.Game) (bytes : List ℕ) (r c : ℕ) where
+  abbrev atPoint : Answer
+  atPoint = pointAnswer g bytes (g .flags) r c
+
+  abbrev limit : Answer
+  limit = refuse MoveLimit (leb maxStones (g .accepted))
+
+  abbrev noRoom : Answer
+  noRoom = refuse HistoryFull (full bytes (g .records) (g .colours))
+
+  stone-paused : g .passes ≡ 2 → stoneAnswer g bytes r c ≡ GamePaused
+  unfolding stoneAnswer paused accepts number
+  stone-paused e = test-refuses GamePaused (atPoint then limit then noRoom) refl (eq-eqb (g .passes) 2 e)
+
+  module _ (open′ : g .passes ≢ 2) where
+    unpaused : stoneAnswer g bytes r c ≡ (atPoint then limit then noRoom)
+    unfolding stoneAnswer paused
+    unpaused = test-passes GamePaused (atPoint then limit then noRoom) (ne-eqb (g .passes) 2 open′)
+
+    stone-point : accepts atPoint ≡ false → stoneAnswer g bytes r c ≡ atPoint
+    stone-point bad = unpaused ∙ then-refused atPoint (limit then noRoom) bad
+
+    module _ (ok : accepts atPoint ≡ true) where
+      stone-limit : maxStones ≤ g .accepted → stoneAnswer g bytes r c ≡ MoveLimit
+      unfolding accepts number
+      stone-limit most =
+          unpaused ∙ then-accepted atPoint (limit then noRoom) ok ∙ test-refuses MoveLimit noRoom refl (le-leb maxStones (g .accepted) most)
+
+      stone-last : g .accepted < maxStones → stoneAnswer g bytes r c ≡ noRoom
+      stone-last more =
+          unpaused ∙ then-accepted atPoint (limit then noRoom) ok ∙ test-passes MoveLimit noRoom (lt-leb maxStones (g .accepted) more)
+
+-- ---- A stone that a true state refuses
+
+-- a history with room: the stone was let pass by every test
+pub record Allowed (g : Game) (bytes : List ℕ) (r c : ℕ) : Type 0 where
+  pub unpaused : g .passes ≢ 2
+  pub point : accepts (pointAnswer (viewOf g) bytes (g .flags) r c) ≡ true
+  pub more : g .accepted < maxStones
+  pub free : full bytes (g .records) (coloursOf (g .board)) ≡ false
+
+pub fewer : (g : Game) → TrueState g → g .accepted ≢ maxStones → g .accepted < maxStones
+unfolding viewOf
+fewer g is n = let most = is .game .limited in omega arith
+
+module _ (g : Game) (bytes : List ℕ) (r c : ℕ) (is : TrueState g) (room : RoomIn g (length bytes)) where
+  abbrev seen : rules.Game
+  seen = viewOf g
+
+  abbrev call : Result
+  call = stone seen bytes r c
+
+  refused-by : (a : Answer) → stoneAnswer seen bytes r c ≡ a → accepts a ≡ false → {answer : ℕ} → answer ≡ number a → CalledTrue call g bytes answer g bytes
+  unfolding stone
+  refused-by a e no′ told = true-refused g bytes is room (stoneAnswer seen bytes r c) _ _ (ap accepts e ∙ no′) (told ∙ ap number (sym e))
+
+  pub play-paused : g .passes ≡ 2 → CalledTrue call g bytes (number GamePaused) g bytes
+  unfolding viewOf accepts number
+  play-paused e = refused-by GamePaused (stone-paused seen bytes r c e) refl refl
+
+  module _ (open′ : g .passes ≢ 2) (answer : ℕ) (told : answer ≡ number (pointAnswer seen bytes (g .flags) r c)) where
+    pub play-refused : answer ≢ 0 → CalledTrue call g bytes answer g bytes
+    unfolding viewOf
+    play-refused n =
+        let bad = other-refuses (pointAnswer seen bytes (g .flags) r c) answer told n in
+        refused-by (pointAnswer seen bytes (g .flags) r c) (stone-point seen bytes r c open′ bad) bad told
+
+    module _ (zero′ : answer ≡ 0) where
+      pub point-ok : accepts (pointAnswer seen bytes (g .flags) r c) ≡ true
+      point-ok = zero-accepts (pointAnswer seen bytes (g .flags) r c) answer told zero′
+
+      pub play-limit : g .accepted ≡ maxStones → CalledTrue call g bytes (number MoveLimit) g bytes
+      unfolding viewOf accepts number
+      play-limit e = refused-by MoveLimit (stone-limit seen bytes r c open′ point-ok (omega arith)) refl refl
+
+      pub play-full : g .accepted ≢ maxStones → full bytes (g .records) (coloursOf (g .board)) ≡ true → CalledTrue call g bytes (number HistoryFull) g bytes
+      unfolding viewOf accepts number
+      play-full n e = refused-by HistoryFull (stone-last seen bytes r c open′ point-ok (fewer g is n) ∙ refuses HistoryFull e) refl refl
+
+-- ---- A stone that a true state accepts
+
+-- a ko point on the board is a number of its own
+place-within : (n : ℕ) (place : Place) → ((k : ℕ) → placeOf place ≡ some k → k < n) → Within n (placeOf place)
+place-within n Off low = tt
+place-within n (At p) low = low p refl
+
+module _ (g : Game) (bytes : List ℕ) (r c : ℕ) (is : TrueState g) (ok : Allowed g bytes r c) where
+  abbrev own : ℕ
+  own = turnOf (g .turn)
+
+  abbrev point : ℕ
+  point = index (g .board .width) r c
+
+  accepted : stoneAnswer (viewOf g) bytes r c ≡ Accepted
+  unfolding viewOf
+  accepted = stone-last (viewOf g) bytes r c (ok .unpaused) (ok .point) (ok .more) ∙ passes HistoryFull (ok .free)
+
+  kept : rules.TrueGame (stoneGame (viewOf g) bytes point)
+  unfolding viewOf accepts number
+  kept = stone-keeps (viewOf g) bytes r c (is .game) (ap accepts accepted)
+
+  pub laying : {p mover : ℕ} → p ≡ point → mover ≡ own → Laying (g .board) p mover (g .flags)
+  unfolding viewOf
+  laying {p} {mover} here′ mine =
+      subst (λ (q : ℕ). Laying (g .board) q mover (g .flags)) (sym here′)
+      (subst (λ (m : ℕ). Laying (g .board) point m (g .flags)) (sym mine)
+      (record {
+        board = is .board;
+        on = accepted-on (viewOf g) bytes r c (g .flags) (ok .point);
+        empty = accepted-empty (viewOf g) bytes r c (g .flags) (ok .point);
+        player = turn-player (g .turn);
+        allowed = accepted-no-suicide (viewOf g) bytes r c (g .flags) (ok .point);
+      }))
+
+  module _ (laid : Laid) {p mover : ℕ} (here′ : p ≡ point) (mine : mover ≡ own) (laidOut : LaidOut (g .board) p mover (g .flags) laid) where
+    out : LaidOut (g .board) point own (g .flags) laid
+    out =
+        subst (λ (q : ℕ). LaidOut (g .board) q own (g .flags) laid) here′
+        (subst (λ (m : ℕ). LaidOut (g .board) p m (g .flags) laid) mine laidOut)
+
+    -- how many stones of a colour are removed
+    abbrev gone : ℕ → ℕ
+    gone k = length (removed (g .board .height) (g .board .width) k (coloured (coloursOf (g .board)) own point) (resulting (viewOf g) point))
+
+    pub ko-within : Within noPoint (placeOf (laid .ko))
+    unfolding viewOf stoneGame resulting
+    ko-within =
+        place-within noPoint (laid .ko)
+        (λ k e. omega (arith, kept .koOn k (sym (out .ko) ∙ e), area-fits (is .board .table .size)))
+
+    module _
+        (turn : ℕ) (next : turn ≡ other mover) (ko : ℕ) (its : koOf ko ≡ placeOf (laid .ko))
+        (held : Tally) (holds : HeldAfter (g .held) mover (laid .taken) (laid .lost) held) (put : Tally) (puts : PutAfter (g .put) mover put)
+        (records : ℕ) (bytes′ : List ℕ) (noted : Noted bytes (g .records) (coloursOf (g .board)) records bytes′) where
+      abbrev after : Game
+      after = stoned g (laid .board) turn ko held put records
+
+      shown : viewOf after ≡ stoneGame (viewOf g) bytes point
+      unfolding viewOf stoned stoneGame resulting begunOf
+      shown =
+          let player = turn-player (g .turn) in
+          let turns = next ∙ ap other mine in
+          let holds′ = subst (λ (m : ℕ). HeldAfter (g .held) m (laid .taken) (laid .lost) held) mine holds in
+          let puts′ = subst (λ (m : ℕ). PutAfter (g .put) m put) mine puts in
+          λ i.
+          record {
+            height = out .tall i;
+            width = out .wide i;
+            flags = g .flags;
+            colours = out .colours i;
+            turn = (ap turnOf turns ∙ turn-same (other own) (other-player own player)) i;
+            passes = 0;
+            whiteHeld = (holds′ .whites ∙ ap (λ (n : ℕ). g .held .white + n) (white-gone own (laid .taken) (laid .lost) gone (out .taken) (out .lost) player)) i;
+            blackHeld = (holds′ .blacks ∙ ap (λ (n : ℕ). g .held .black + n) (black-gone own (laid .taken) (laid .lost) gone (out .taken) (out .lost) player)) i;
+            koPoint = (its ∙ out .ko) i;
+            outcome = outcomeOf (g .outcome);
+            handicap = g .handicap;
+            accepted = g .accepted + 1;
+            blackPut = puts′ .blacks i;
+            whitePut = puts′ .whites i;
+            records = noted .counted i;
+            begun = true;
+          }
+
+      pub play-accepted : RoomIn g (length bytes) → CalledTrue (stone (viewOf g) bytes r c) g bytes 0 after bytes′
+      unfolding viewOf stone stoned accepts number RoomIn capacity
+      play-accepted room =
+          let long = bytesAfter-length bytes (g .records) (coloursOf (g .board)) (ok .free) in
+          let fits = recordsAfter-fits bytes (g .records) (coloursOf (g .board)) (ok .free) room in
+          true-accepted g bytes is room (stoneAnswer (viewOf g) bytes r c) (stoneGame (viewOf g) bytes point)
+          (bytesAfter bytes (g .records) (coloursOf (g .board))) (ap accepts accepted) shown (noted .written)
+          (record { board = out .board; game = subst rules.TrueGame (sym shown) kept })
+          long
+          (rw (noted .counted, ← long) fits)
