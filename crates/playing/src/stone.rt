@@ -19,7 +19,6 @@ use points::answers::MOVE_LIMIT;
 use points::coord::two_to_1dim;
 use points::sizes::MAX_STONES;
 use points::stones::other;
-ghost use mathlib.Core.Path.{_≡_};
 ghost use lib.ListN.{length};
 ghost use Rattle.rules.specs.Calls as rules;
 ghost use Rattle.game.specs.View.{viewOf, TrueState, RoomIn};

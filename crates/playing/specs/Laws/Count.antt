@@ -1,5 +1,6 @@
--- Laws of After: what a stone removed of each colour is what it took or lost, and a player's byte is the player.
-use mathlib.Core.Path.{_≡_, refl, sym, ap, ap₂, _∙_}
+-- Laws of After's numbers: what a stone removed of each colour is what it took or lost, one stone more was put, and no number can grow
+-- out of its type.
+use mathlib.Core.Path.{_≡_, refl, ap, _∙_}
 use mathlib.Core.Bool.{Bool, true, false, not, _&&_}
 use mathlib.Core.List.{List}
 use mathlib.Core.Logic.{_≢_, inl, inr}
@@ -9,7 +10,7 @@ use lib.Dec.{leb}
 use Rattle.rules.specs.Colours.{black, white, other}
 use Rattle.rules.specs.Game.{Player}
 use Rattle.rules.specs.Calls.{oneIf}
-use Rattle.rules.specs.Records.{recordOf, capacity, recorded, full}
+use Rattle.rules.specs.Records.{recordOf, capacity, full}
 use Rattle.history.specs.History.{among}
 use Rattle.history.specs.Laws.History.{among-recorded}
 use Rattle.game.specs.View.{turnOf, viewOf, TrueState}

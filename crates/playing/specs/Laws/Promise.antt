@@ -1,5 +1,5 @@
--- Laws of promises: what a call on a true state promises is what a call on any state does, once it is judged; a refused call keeps its
--- promise by changing nothing; and two results that meet one promise are equal in answer, view and bytes.
+-- Laws of Promise: what a call on a true state promises is what a call on any state does, once it is judged; it keeps its promise by
+-- changing nothing where the rules refuse, and by doing what they say where they accept.
 use mathlib.Core.Path.{_≡_, refl, sym, ap, _∙_}
 use mathlib.Core.Bool.{Bool, true, false, cond}
 use mathlib.Core.List.{List}
@@ -11,7 +11,7 @@ use Rattle.rules.specs.Game as rules
 use Rattle.rules.specs.Calls.{Result, result}
 use Rattle.game.specs.declared.state.Game.{Game}
 use Rattle.game.specs.View.{viewOf, TrueState, RoomIn}
-use Rattle.game.specs.Promise.{Called, CalledAlone}
+use Rattle.game.specs.Promise.{Called}
 use Rattle.playing.specs.Promise.{CalledTrue}
 
 -- ---- By the judge

@@ -1,7 +1,7 @@
 -- Laws of a stone: which test refuses it, what laying it may ask of an accepted one, and that the state which the code makes shows what
 -- the rules say and is true again.
 use mathlib.Core.Path.{_≡_, refl, sym, ap, _∙_, subst}
-use mathlib.Core.Bool.{true, false, not, _&&_}
+use mathlib.Core.Bool.{true, false}
 use mathlib.Core.List.{List}
 use mathlib.Core.Logic.{_≢_}
 use mathlib.Core.Option.{some}
@@ -11,13 +11,13 @@ use lib.Dec.{leb}
 use lib.ListN.{length}
 use borrow.Author.Tests.{eq-eqb, ne-eqb, le-leb, lt-leb}
 use Rattle.rules.specs.Sizes.{maxStones}
-use Rattle.rules.specs.Points.{area, index}
-use Rattle.rules.specs.Colours.{black, white, other}
-use Rattle.rules.specs.Move.{coloured, removed, soleOf}
-use Rattle.rules.specs.Records.{full, capacity, recordsAfter, bytesAfter}
+use Rattle.rules.specs.Points.{index}
+use Rattle.rules.specs.Colours.{other}
+use Rattle.rules.specs.Move.{coloured, removed}
+use Rattle.rules.specs.Records.{full, capacity, bytesAfter}
 use Rattle.rules.specs.Answers.{Answer, Accepted, GamePaused, MoveLimit, HistoryFull, number, accepts, refuse, _then_}
 use Rattle.rules.specs.Game as rules
-use Rattle.rules.specs.Calls.{Result, paused, resulting, pointAnswer, stoneAnswer, oneIf, stoneGame, stone}
+use Rattle.rules.specs.Calls.{Result, paused, resulting, pointAnswer, stoneAnswer, stoneGame, stone}
 use Rattle.rules.specs.Laws.Colours.{other-player}
 use Rattle.rules.specs.Laws.Calls.{accepted-on, accepted-empty, accepted-no-suicide}
 use Rattle.rules.specs.Laws.Keep.{stone-keeps}
@@ -36,7 +36,7 @@ use Rattle.game.specs.declared.state.Tally.{Tally}
 use Rattle.game.specs.View.{noPoint, turnOf, koOf, outcomeOf, begunOf, viewOf, TrueState, RoomIn}
 use Rattle.game.specs.Laws.View.{turn-player}
 use Rattle.playing.specs.Promise.{CalledTrue}
-use Rattle.playing.specs.After.{Few, blackGone, whiteGone, HeldAfter, PutAfter, stoned}
+use Rattle.playing.specs.After.{HeldAfter, PutAfter, stoned}
 use Rattle.playing.specs.Laws.Promise.{true-refused, true-accepted}
 use Rattle.playing.specs.Laws.Count.{turn-same, black-gone, white-gone}
 
@@ -76,7 +76,7 @@ module _ (g : rules.Game) (bytes : List ℕ) (r c : ℕ) where
 
 -- ---- A stone that a true state refuses
 
--- a history with room: the stone was let pass by every test
+-- every test lets the stone pass
 pub record Allowed (g : Game) (bytes : List ℕ) (r c : ℕ) : Type 0 where
   pub unpaused : g .passes ≢ 2
   pub point : accepts (pointAnswer (viewOf g) bytes (g .flags) r c) ≡ true

@@ -1,5 +1,5 @@
 -- A point of the board is not the number that means none.
-use mathlib.Core.Path.{sym, ap, _∙_, subst}
+use mathlib.Core.Path.{refl, sym, ap, _∙_, subst}
 use native.Mathlib.Omega.{arith}
 use Prim.Native.Nat.{_<_}
 use borrow.Author.Needs.{needs}
@@ -8,7 +8,6 @@ use Rattle.game.specs.View.{noPoint}
 use Rattle.game.specs.Laws.View.{ko-none, ko-some}
 use Rattle.playing.proofs.count.ko_number.Statement.{statement}
 use Rattle.playing.proofs.count.ko_number.Tie as tie
-use mathlib.Core.Path.{refl}
 
 low : (c : tie.After-known-told) → c .before .place .given .0 .0 < noPoint
 low c = subst (Within noPoint) (ap placeOf (c .before .place .given .1)) (c .before .before .before .pre)

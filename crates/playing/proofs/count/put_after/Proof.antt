@@ -1,6 +1,4 @@
 -- The mover is Black, or White.
-use mathlib.Core.Path.{_≡_}
-use Prim.Native.Nat.{ℕ}
 use borrow.Author.Needs.{needs}
 use Rattle.playing.specs.Laws.Count.{put-black, put-white}
 use Rattle.playing.proofs.count.put_after.Statement.{statement}

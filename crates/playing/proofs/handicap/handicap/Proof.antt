@@ -1,5 +1,4 @@
 -- Each way out is one of the promise's laws: the state is damaged, the game has begun, laying the stones refuses, or they are laid.
-use mathlib.Core.Path.{_≡_, sym}
 use native.Mathlib.Omega.{arith}
 use Prim.Native.Nat.{_≤_}
 use lib.ListN.{length}
