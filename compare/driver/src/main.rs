@@ -1,0 +1,138 @@
+//! Plays seeded random games through two referees and compares every answer; the first difference is shrunk and shown.
+
+mod call;
+mod compare;
+mod count;
+mod family;
+mod generate;
+mod program;
+mod random;
+mod shrink;
+mod sizes;
+
+use compare::{Difference, Pair};
+use count::Counts;
+use family::{Family, Play, FAMILIES};
+use program::Program;
+use std::io::{IsTerminal, Write};
+use std::time::Instant;
+
+const USAGE: &str = "usage: driver LEFT RIGHT FAMILY [--games N] [--seed N] [--show]
+       driver LEFT RIGHT sizes [--games N] [--seed N]
+LEFT and RIGHT are commands with their words; FAMILY is square, tall, all, limit or words.
+--show prints the lines of the games in place of playing them.
+sizes tells which of the 361 sizes the two play alike, with and without legal lists.";
+
+struct Wanted {
+    pair: Pair,
+    family: String,
+    games: usize,
+    seed: u64,
+    show: bool,
+}
+
+fn wanted() -> Option<Wanted> {
+    let mut words = std::env::args().skip(1);
+    let pair = Pair { left: Program::new(&words.next()?), right: Program::new(&words.next()?) };
+    let mut wanted = Wanted { pair, family: words.next()?, games: 100, seed: 1, show: false };
+    while let Some(word) = words.next() {
+        match word.as_str() {
+            "--games" => wanted.games = words.next()?.parse().ok()?,
+            "--seed" => wanted.seed = words.next()?.parse().ok()?,
+            "--show" => wanted.show = true,
+            _ => return None,
+        }
+    }
+    Some(wanted)
+}
+
+fn main() {
+    let Some(wanted) = wanted() else {
+        eprintln!("{USAGE}");
+        std::process::exit(2);
+    };
+    if wanted.family == "sizes" {
+        return sizes::tell(&wanted.pair, wanted.seed, wanted.games);
+    }
+    let Some(&(_, family)) = FAMILIES.iter().find(|(name, _)| *name == wanted.family) else {
+        eprintln!("{USAGE}");
+        std::process::exit(2);
+    };
+    let games = wanted.games.min(family.most());
+    if wanted.show {
+        (0..games).for_each(|number| family.game(wanted.seed, number).lines.iter().for_each(|line| println!("{line}")));
+        return;
+    }
+    std::process::exit(if play_all(&wanted, family, games) { 0 } else { 1 });
+}
+
+/// Games are played some at a time, each time by programs started anew, so that a program may keep its answers to its end.
+fn play_all(wanted: &Wanted, family: Family, games: usize) -> bool {
+    let together = if family == Family::Limit { 1 } else { 20 };
+    let mut counts = Counts::default();
+    let mut progress = Progress::new(wanted, games);
+    for first in (0..games).step_by(together) {
+        let plays: Vec<Play> = (first..games.min(first + together)).map(|number| family.game(wanted.seed, number)).collect();
+        let lines: Vec<&[String]> = plays.iter().map(|play| play.lines.as_slice()).collect();
+        match wanted.pair.play(&lines) {
+            Ok(answers) => plays.iter().zip(&answers).for_each(|(play, answers)| counts.add(&play.lines, answers, &play.steps)),
+            Err(found) => {
+                progress.end();
+                show(wanted, first + found.game, &plays[found.game].lines, &found);
+                return false;
+            }
+        }
+        progress.tell(&counts);
+    }
+    progress.end();
+    println!("{} and {} agree, family {}, seed {}:", wanted.pair.left.name, wanted.pair.right.name, wanted.family, wanted.seed);
+    counts.print();
+    true
+}
+
+/// Shrinks the game and prints it with both answers at its end.
+fn show(wanted: &Wanted, number: usize, lines: &[String], found: &Difference) {
+    let pair = &wanted.pair;
+    println!("{} and {} differ: family {}, seed {}, game {}, call {}.", pair.left.name, pair.right.name, wanted.family, wanted.seed, number, found.call);
+    let (small, small_found) = shrink::shrink(pair, lines, found);
+    println!("The smallest game found:");
+    small.iter().for_each(|line| println!("{line}"));
+    if small_found.in_state {
+        println!("state");
+    }
+    println!("  {}: {}", pair.left.name, small_found.left);
+    println!("  {}: {}", pair.right.name, small_found.right);
+}
+
+/// A line that is written over on a terminal, and now and then a line elsewhere.
+struct Progress {
+    title: String,
+    games: usize,
+    began: Instant,
+    told: u64,
+}
+
+impl Progress {
+    fn new(wanted: &Wanted, games: usize) -> Progress {
+        let title = format!("{} and {}, {}", wanted.pair.left.name, wanted.pair.right.name, wanted.family);
+        Progress { title, games, began: Instant::now(), told: 0 }
+    }
+
+    fn tell(&mut self, counts: &Counts) {
+        let seconds = self.began.elapsed().as_secs();
+        let terminal = std::io::stderr().is_terminal();
+        if !terminal && (seconds < self.told + 10 && counts.games < self.games) {
+            return;
+        }
+        self.told = seconds;
+        let ends = if terminal { ("\r", "") } else { ("", "\n") };
+        eprint!("{}{}: {} of {} games, {} calls, {} s{}", ends.0, self.title, counts.games, self.games, counts.calls, seconds, ends.1);
+        std::io::stderr().flush().unwrap_or(());
+    }
+
+    fn end(&self) {
+        if std::io::stderr().is_terminal() {
+            eprintln!();
+        }
+    }
+}
