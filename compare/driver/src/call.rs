@@ -50,7 +50,7 @@ pub fn narrow_points(points: &[(u128, u128)]) -> Vec<(u64, u64)> {
 pub fn follow(model: &mut Game, call: &Call) -> Reason {
     match call {
         &Call::New(height, width, flags, bytes) => {
-            let lent = bytes.map_or(lines::LENT, narrow).min(lines::MOST_LENT);
+            let lent = bytes.map_or(lines::LENT, narrow);
             let (reason, game) = Game::new_game(narrow(height), narrow(width), narrow(flags), lent, model.slip);
             *model = game;
             reason

@@ -106,25 +106,26 @@ fn limit_games() -> Vec<Vec<String>> {
 
 /// Lines of every kind, most of them no calls.
 fn words(random: &mut Random) -> Vec<String> {
-    const SOME: [&str; 61] = [
+    const SOME: [&str; 67] = [
         "", "#", "# a word", "#stone 0 0", "foo", "stone", "stone 0", "stone 0 0", "stone 0 0 0", "stone a 0", "stone 0 b", "stone -1 0",
         "stone +1 0", "stone 1,0", "stone 1.0 0", "stone 0x1 0", "stones 0 0", "Stone 0 0", "stone 00 000", "stone 1 1", "stone 2 2", "new", "new 3",
         "new 3 3", "new 3 3 0", "new 3 3 0 500 1", "new 3 3 x", "new -3 3 0", "new 5 4 16", "new 20 4 0", "new 4 5 15 1000", "handicap", "handicap 0",
         "handicap 0 0", "handicap 0 0 1", "handicap x", "handicap 0 0 0 0", "pass", "pass 0", "passes", "pas", "resign", "resign b", "resign w", "resign x", "resign B",
         "resign b b", "resume", "resume 1", "check", "check 0 0", "check 0 0 0", "check 0 0 0 0", "check 0 0 16", "legals", "legals 0", "legals 99", "legals 0 0",
-        "render", "render 1", "state 0",
+        "render", "render 1", "state 0", " ", "\t", " # no comment", "stone\t1\t1", "  stone   1 \t 2  ", " pass",
     ];
     let mut lines = vec!["new 3 3 0".to_string()];
     for _ in 0..60 {
         let mut line = random.of(&SOME).to_string();
         match random.below(12) {
             // A comment or a call that is too long or just fits.
-            0 => line = format!("#{}", "x".repeat(*random.of(&[100, 4000, 8000, 8180, 8300, 9000, 20_000, 70_000]))),
+            0 => line = format!("#{}", "x".repeat(*random.of(&[100, 4000, 8000, 8190, 8191, 8192, 8193, 9000, 20_000, 70_000]))),
             1 => line = format!("stone 0 {}", "1".repeat(*random.of(&[20, 39, 40, 100, 1000, 8100, 8300, 17_000]))),
             2 => line = format!("stone 0 {}1", "0".repeat(*random.of(&[20, 39, 40, 100, 1000, 8100, 8300, 17_000]))),
             3 => line = format!("handicap{}", " 0 1".repeat(*random.of(&[2, 400, 2000, 2100, 5000]))),
             4 => line = format!("legals {}", "9".repeat(*random.of(&[20, 39, 40, 100, 1000]))),
             5 => line = format!("new {0} {0} 0 {0}", "9".repeat(*random.of(&[1, 20, 39, 40, 100, 1000]))),
+            6 => line = format!("new 3 3 0 {}", *random.of(&[0u128, 100, 1_048_576, 1_048_577, 1 << 20, 1 << 32, 1 << 64, 1 << 100])),
             _ => {}
         }
         if random.percent(20) {

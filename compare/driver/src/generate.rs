@@ -73,7 +73,7 @@ fn lent(random: &mut Random) -> Option<u128> {
         4 => Some(*random.of(&[0, 1, 98, 99, 100, 101, 102, 199, 200, 201, 299, 300, 301])),
         5 => Some(random.below(3000) as u128),
         6 => Some(100 * random.between(1, 80) as u128 + random.below(100) as u128),
-        _ => Some(*random.of(&[655_359, 655_360, 1_048_575, 1_048_576, 1_048_577, 1 << 32, 1 << 64, 1 << 100])),
+        _ => Some(*random.of(&[65_535, 65_536, 655_359, 655_360, 1_048_575, 1_048_576])),
     }
 }
 
@@ -286,7 +286,7 @@ impl Player<'_> {
         let board = &self.model.board;
         let elsewhere = (board.height as u128, board.width as u128) != self.home;
         let full = self.model.records.len() as u64 >= self.model.capacity;
-        self.scope.beyond_the_crate && (elsewhere || full && !self.model.records.contains(&board.record()))
+        self.scope.beyond_the_crate && (elsewhere || full && !self.model.is_recorded(board))
     }
 
     /// A ko in a corner out of a handicap: the one way to ask the superko test with two records and a ko point.

@@ -5,8 +5,11 @@ mod compare;
 mod count;
 mod family;
 mod generate;
+mod kinds;
+mod one_hash;
 mod program;
 mod random;
+mod sample;
 mod shrink;
 mod sizes;
 
@@ -19,9 +22,13 @@ use std::time::Instant;
 
 const USAGE: &str = "usage: driver LEFT RIGHT FAMILY [--games N] [--seed N] [--show]
        driver LEFT RIGHT sizes [--games N] [--seed N]
+       driver sample [--kinds]
+       driver one-hash
 LEFT and RIGHT are commands with their words; FAMILY is square, tall, all, limit or words.
 --show prints the lines of the games in place of playing them.
-sizes tells which of the 361 sizes the two play alike, with and without legal lists.";
+sizes tells which of the 361 sizes the two play alike, with and without legal lists.
+sample prints short games that show each test both ways and each kind of capture; --kinds lists what they show.
+one-hash prints a game on which a referee that compares hashes alone is wrong.";
 
 struct Wanted {
     pair: Pair,
@@ -47,6 +54,13 @@ fn wanted() -> Option<Wanted> {
 }
 
 fn main() {
+    let words: Vec<String> = std::env::args().skip(1).collect();
+    match words.iter().map(String::as_str).collect::<Vec<_>>()[..] {
+        ["sample"] => return sample::print(1, false),
+        ["sample", "--kinds"] => return sample::print(1, true),
+        ["one-hash"] => return one_hash::print(),
+        _ => {}
+    }
     let Some(wanted) = wanted() else {
         eprintln!("{USAGE}");
         std::process::exit(2);

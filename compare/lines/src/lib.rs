@@ -86,7 +86,7 @@ pub fn answer(referee: &mut impl Referee, line: &[u8]) -> Vec<u8> {
 }
 
 fn asked(referee: &mut impl Referee, line: &str) -> Result<String, &'static str> {
-    let words: Vec<&str> = line.split(' ').filter(|word| !word.is_empty()).collect();
+    let words: Vec<&str> = line.split([' ', '\t']).filter(|word| !word.is_empty()).collect();
     let (name, rest) = words.split_first().ok_or("no word")?;
     let number = |answer: Answer| answer.map(|number| number.to_string());
     match (*name, rest) {
@@ -100,7 +100,8 @@ fn asked(referee: &mut impl Referee, line: &str) -> Result<String, &'static str>
             let numbers: Option<Vec<u64>> = rest.iter().map(|word| decimal(word)).collect();
             match (*name, numbers.ok_or("not a call")?.as_slice()) {
                 ("new", &[height, width, flags]) => number(referee.new_game(height, width, flags, LENT)),
-                ("new", &[height, width, flags, bytes]) => number(referee.new_game(height, width, flags, bytes.min(MOST_LENT))),
+                ("new", &[_, _, _, bytes]) if bytes > MOST_LENT => Err("too many bytes of history"),
+                ("new", &[height, width, flags, bytes]) => number(referee.new_game(height, width, flags, bytes)),
                 ("handicap", points) if points.len() % 2 == 0 => {
                     let points: Vec<(u64, u64)> = points.chunks(2).map(|pair| (pair[0], pair[1])).collect();
                     number(referee.handicap(&points))

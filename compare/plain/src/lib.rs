@@ -153,7 +153,7 @@ impl Game {
         if self.accepted >= STONES {
             return Reason::MoveLimit;
         }
-        let present = self.board.record();
+        let present = self.record_of(&self.board);
         let recorded = self.records.contains(&present);
         if !recorded && self.records.len() as u64 >= self.capacity {
             return Reason::HistoryFull;
@@ -298,7 +298,7 @@ impl Game {
             Reason::Accepted
         } else if self.ko_holds(point) {
             Reason::SuperkoByKo
-        } else if self.records.contains(&self.laid(point).0.record()) {
+        } else if self.is_recorded(&self.laid(point).0) {
             Reason::SuperkoByRecord
         } else {
             Reason::Accepted
@@ -319,6 +319,18 @@ impl Game {
             taken.own = board.clear(self.turn);
         }
         (board, taken)
+    }
+
+    pub fn is_recorded(&self, board: &Board) -> bool {
+        self.records.contains(&self.record_of(board))
+    }
+
+    fn record_of(&self, board: &Board) -> [u8; 100] {
+        let mut record = board.record();
+        if self.slip == Slip::HashAlone {
+            record[8..].fill(0);
+        }
+        record
     }
 
     fn count_prisoners(&mut self, taken: &Taken) {

@@ -1,4 +1,4 @@
-//! Five ways to be wrong in one line, to see that the comparison notices.
+//! Ways to be wrong in one line, to see that the comparison notices.
 
 #[derive(Clone, Copy, PartialEq, Eq, Debug)]
 pub enum Slip {
@@ -13,7 +13,16 @@ pub enum Slip {
     PrisonersSwapped,
     /// A stone leaves the passes as they are.
     PassesStay,
+    /// Boards with one hash are taken for one board. No random game shows it; the sample has one that does.
+    HashAlone,
 }
 
-pub const SLIPS: [Slip; 6] =
-    [Slip::None, Slip::OwnFirst, Slip::KoAfterTwoChains, Slip::AtLeastTwoRecords, Slip::PrisonersSwapped, Slip::PassesStay];
+pub const SLIPS: [Slip; 7] = [
+    Slip::None,
+    Slip::OwnFirst,
+    Slip::KoAfterTwoChains,
+    Slip::AtLeastTwoRecords,
+    Slip::PrisonersSwapped,
+    Slip::PassesStay,
+    Slip::HashAlone,
+];
