@@ -15,10 +15,25 @@ pub enum Family {
     Limit,
     /// Lines that are no calls.
     Words,
+    /// One size, within what the crate checks and without legal lists.
+    Size(usize, usize),
 }
 
-pub const FAMILIES: [(&str, Family); 5] =
-    [("square", Family::Square), ("tall", Family::Tall), ("all", Family::All), ("limit", Family::Limit), ("words", Family::Words)];
+/// A family by its name; a size is written as 3x2.
+pub fn named(name: &str) -> Option<Family> {
+    Some(match name {
+        "square" => Family::Square,
+        "tall" => Family::Tall,
+        "all" => Family::All,
+        "limit" => Family::Limit,
+        "words" => Family::Words,
+        _ => {
+            let (height, width) = name.split_once('x')?;
+            let side = |word: &str| word.parse().ok().filter(|side| (1..=SIDE).contains(side));
+            Family::Size(side(height)?, side(width)?)
+        }
+    })
+}
 
 pub struct Play {
     pub lines: Vec<String>,
@@ -42,10 +57,11 @@ impl Family {
             Family::Square => square(&mut random),
             Family::Tall => *random.of(&tall_sizes()),
             Family::All => (1 + number % SIDE, 1 + number / SIDE % SIDE),
+            Family::Size(height, width) => (height, width),
             Family::Limit => return Play { lines: limit_games().swap_remove(number), steps: Vec::new() },
             Family::Words => return Play { lines: words(&mut random), steps: Vec::new() },
         };
-        let scope = Scope { beyond_the_crate: self == Family::All, legal_lists: self != Family::Tall };
+        let scope = Scope { beyond_the_crate: self == Family::All, legal_lists: matches!(self, Family::Square | Family::All) };
         play(&mut random, scope, height, width)
     }
 }

@@ -15,7 +15,7 @@ mod sizes;
 
 use compare::{Difference, Pair};
 use count::Counts;
-use family::{Family, Play, FAMILIES};
+use family::{Family, Play};
 use program::Program;
 use std::io::{IsTerminal, Write};
 use std::time::Instant;
@@ -24,7 +24,7 @@ const USAGE: &str = "usage: driver LEFT RIGHT FAMILY [--games N] [--seed N] [--s
        driver LEFT RIGHT sizes [--games N] [--seed N]
        driver sample [--kinds]
        driver one-hash
-LEFT and RIGHT are commands with their words; FAMILY is square, tall, all, limit or words.
+LEFT and RIGHT are commands with their words; FAMILY is square, tall, all, limit, words, or one size, as 3x2.
 --show prints the lines of the games in place of playing them.
 sizes tells which of the 361 sizes the two play alike, with and without legal lists.
 sample prints short games that show each test both ways and each kind of capture; --kinds lists what they show.
@@ -68,7 +68,7 @@ fn main() {
     if wanted.family == "sizes" {
         return sizes::tell(&wanted.pair, wanted.seed, wanted.games);
     }
-    let Some(&(_, family)) = FAMILIES.iter().find(|(name, _)| *name == wanted.family) else {
+    let Some(family) = family::named(&wanted.family) else {
         eprintln!("{USAGE}");
         std::process::exit(2);
     };
