@@ -73,8 +73,12 @@ impl Desk {
 /// Whether the points are different and each chain that they make keeps a liberty.
 fn takes(goban: &Goban, points: &[Coord]) -> bool {
     let mut goban = goban.clone();
-    points.iter().all(|&point| goban.get_color(point).is_none() && { goban.push(point, Color::Black); true })
-        && !goban.chains().any(|chain| chain.is_dead())
+    points.iter().all(|&point| {
+        goban.get_color(point).is_none() && {
+            goban.push(point, Color::Black);
+            true
+        }
+    }) && !goban.chains().any(|chain| chain.is_dead())
 }
 
 impl Referee for Desk {

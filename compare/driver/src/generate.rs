@@ -250,7 +250,8 @@ impl Player<'_> {
             points.swap(place, other);
         }
         points.truncate(count);
-        let mut points: Vec<(u128, u128)> = points.iter().map(|&point| board.row_column(point)).map(|(row, column)| (row.into(), column.into())).collect();
+        let mut points: Vec<(u128, u128)> =
+            points.iter().map(|&point| board.row_column(point)).map(|(row, column)| (row.into(), column.into())).collect();
         if self.scope.beyond_the_crate && self.random.percent(30) && !points.is_empty() {
             let place = self.random.below(points.len());
             points[place] = if self.random.percent(50) { *self.random.of(&points) } else { (*self.random.of(&LARGE), *self.random.of(&LARGE)) };

@@ -17,7 +17,9 @@ pub fn kinds(before: &Game, call: &Call, reason: Reason, after: &Game) -> Vec<St
         Call::Check(row, column, flags) => tests(&mut kinds, before, row, column, flags as u64),
         Call::Pass => kinds.push(format!("pass with {} passes, ko point {}", before.passes, before.ko.is_some())),
         Call::Resume => kinds.push(format!("resume with {} passes, ko point {}", before.passes, before.ko.is_some())),
-        Call::ResignBlack | Call::ResignWhite => kinds.push(format!("resign {} over {} with {} passes", after.outcome, before.outcome, before.passes)),
+        Call::ResignBlack | Call::ResignWhite => {
+            kinds.push(format!("resign {} over {} with {} passes", after.outcome, before.outcome, before.passes))
+        }
         Call::Legals(flags) if flags < 16 => {
             kinds.push(format!("legals by {flags}"));
             kinds.push(format!("legals with {} passes", before.passes));
@@ -121,7 +123,12 @@ fn laid(kinds: &mut Vec<String>, before: &Game, after: &Game) {
     };
     let (enemy, own) = (sizes(&after.taken.enemy), sizes(&after.taken.own));
     kinds.push(format!("laid by {}: took {enemy:?}, own {own:?}, ko point {}", before.turn, after.ko.is_some()));
-    kinds.push(format!("laid: new record {}, ko point before {}, {} passes", after.records.len() > before.records.len(), before.ko.is_some(), before.passes));
+    kinds.push(format!(
+        "laid: new record {}, ko point before {}, {} passes",
+        after.records.len() > before.records.len(),
+        before.ko.is_some(),
+        before.passes
+    ));
     kinds.push(format!("laid with flags {}, took {}", before.flags, !enemy.is_empty()));
     kinds.push(format!("laid: room left {}", (after.capacity as usize - after.records.len()).min(2)));
 }

@@ -6,12 +6,14 @@ mod count;
 mod family;
 mod generate;
 mod kinds;
+mod limit;
 mod one_hash;
 mod program;
 mod random;
 mod sample;
 mod shrink;
 mod sizes;
+mod words;
 
 use compare::{Difference, Pair};
 use count::Counts;
@@ -107,7 +109,10 @@ fn play_all(wanted: &Wanted, family: Family, games: usize) -> bool {
 /// Shrinks the game and prints it with both answers at its end.
 fn show(wanted: &Wanted, number: usize, lines: &[String], found: &Difference) {
     let pair = &wanted.pair;
-    println!("{} and {} differ: family {}, seed {}, game {}, call {}.", pair.left.name, pair.right.name, wanted.family, wanted.seed, number, found.call);
+    println!(
+        "{} and {} differ: family {}, seed {}, game {}, call {}.",
+        pair.left.name, pair.right.name, wanted.family, wanted.seed, number, found.call
+    );
     let (small, small_found) = shrink::shrink(pair, lines, found);
     println!("The smallest game found:");
     small.iter().for_each(|line| println!("{line}"));

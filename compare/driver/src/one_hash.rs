@@ -46,7 +46,7 @@ fn entry(stone: Stone) -> u64 {
 fn cancelling(last: Stone, taken: &[usize], tries: u64) -> Option<Vec<Stone>> {
     let mut random = crate::random::Random::new(tries, 0);
     let mut stones: Vec<Stone> = (0..SIDE * SIDE)
-        .filter(|point| point / SIDE % 2 == 0 && point % SIDE % 2 == 0 && *point != last.0 && !taken.contains(point))
+        .filter(|point| (point / SIDE).is_multiple_of(2) && (point % SIDE).is_multiple_of(2) && *point != last.0 && !taken.contains(point))
         .map(|point| (point, *random.of(&[BLACK, WHITE])))
         .collect();
     for place in 0..stones.len() {

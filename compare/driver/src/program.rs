@@ -30,12 +30,7 @@ impl Program {
     }
 
     pub fn answers(&self, text: &[u8]) -> Answers {
-        let started = Command::new(&self.words[0])
-            .args(&self.words[1..])
-            .stdin(Stdio::piped())
-            .stdout(Stdio::piped())
-            .stderr(Stdio::null())
-            .spawn();
+        let started = Command::new(&self.words[0]).args(&self.words[1..]).stdin(Stdio::piped()).stdout(Stdio::piped()).stderr(Stdio::null()).spawn();
         let mut child = started.unwrap_or_else(|error| {
             eprintln!("cannot start {}: {error}", self.words[0]);
             std::process::exit(2);

@@ -38,6 +38,14 @@ impl Random {
     /// The place of one of the weights, each as likely as it is heavy.
     pub fn weighted(&mut self, weights: &[usize]) -> usize {
         let mut left = self.below(weights.iter().sum());
-        weights.iter().position(|&weight| left < weight || { left -= weight; false }).expect("a weight that is not 0")
+        weights
+            .iter()
+            .position(|&weight| {
+                left < weight || {
+                    left -= weight;
+                    false
+                }
+            })
+            .expect("a weight that is not 0")
     }
 }

@@ -125,9 +125,25 @@ fn decimal(word: &str) -> Option<u64> {
 }
 
 fn state_text(state: &State) -> String {
-    let player = |colour| if colour == BLACK { 'B' } else if colour == WHITE { 'W' } else { '-' };
+    let player = |colour| {
+        if colour == BLACK {
+            'B'
+        } else if colour == WHITE {
+            'W'
+        } else {
+            '-'
+        }
+    };
     let ko = state.ko.map_or("-".to_string(), |(row, column)| format!("{row},{column}"));
-    let sign = |&colour: &u8| if colour == BLACK { 'X' } else if colour == WHITE { 'O' } else { '.' };
+    let sign = |&colour: &u8| {
+        if colour == BLACK {
+            'X'
+        } else if colour == WHITE {
+            'O'
+        } else {
+            '.'
+        }
+    };
     let rows: Vec<String> = state.rows.iter().map(|row| row.iter().map(sign).collect()).collect();
     format!(
         "{} {} {} {} {} {} {} {}",

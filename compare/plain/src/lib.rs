@@ -291,9 +291,8 @@ impl Game {
         if self.records.len() < least {
             return Reason::Accepted;
         }
-        let captures = self.board.neighbours(point).any(|next| {
-            self.board.colours[next] == self.enemy() && self.board.chain(next).liberties.len() == 1
-        });
+        let captures =
+            self.board.neighbours(point).any(|next| self.board.colours[next] == self.enemy() && self.board.chain(next).liberties.len() == 1);
         if !captures {
             Reason::Accepted
         } else if self.ko_holds(point) {

@@ -83,8 +83,20 @@ impl Referee for Desk {
 
 /// The sign of an empty point: the top and the left come first where a board is one row or one column.
 fn crossing(top: bool, bottom: bool, left: bool, right: bool) -> char {
-    let vertical = if top { 0 } else if bottom { 2 } else { 1 };
-    let horizontal = if left { 0 } else if right { 2 } else { 1 };
+    let vertical = if top {
+        0
+    } else if bottom {
+        2
+    } else {
+        1
+    };
+    let horizontal = if left {
+        0
+    } else if right {
+        2
+    } else {
+        1
+    };
     [['┏', '┯', '┓'], ['┠', '┼', '┨'], ['┗', '┷', '┛']][vertical][horizontal]
 }
 

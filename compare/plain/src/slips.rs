@@ -17,12 +17,5 @@ pub enum Slip {
     HashAlone,
 }
 
-pub const SLIPS: [Slip; 7] = [
-    Slip::None,
-    Slip::OwnFirst,
-    Slip::KoAfterTwoChains,
-    Slip::AtLeastTwoRecords,
-    Slip::PrisonersSwapped,
-    Slip::PassesStay,
-    Slip::HashAlone,
-];
+pub const SLIPS: [Slip; 7] =
+    [Slip::None, Slip::OwnFirst, Slip::KoAfterTwoChains, Slip::AtLeastTwoRecords, Slip::PrisonersSwapped, Slip::PassesStay, Slip::HashAlone];
