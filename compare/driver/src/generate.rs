@@ -58,6 +58,7 @@ pub fn game(random: &mut Random, scope: Scope, height: usize, width: usize) -> V
     match player.random.below(25) {
         0..=4 => player.handicap(),
         5 => player.corner_ko(),
+        6 => player.many_chains(),
         _ => {}
     }
     while player.steps.len() < calls {
@@ -288,6 +289,32 @@ impl Player<'_> {
         let elsewhere = (board.height as u128, board.width as u128) != self.home;
         let full = self.model.records.len() as u64 >= self.model.capacity;
         self.scope.beyond_the_crate && (elsewhere || full && !self.model.is_recorded(board))
+    }
+
+    /// White stones on all sides of a point, each shut in by a handicap: Black takes them all with one stone.
+    fn many_chains(&mut self) {
+        let centre = self.random.below(self.model.board.area());
+        let board = &self.model.board;
+        let place = |point: usize| {
+            let (row, column) = board.row_column(point);
+            (row.into(), column.into())
+        };
+        let white: Vec<usize> = board.neighbours(centre).collect();
+        let mut black: Vec<usize> = white.iter().flat_map(|&point| board.neighbours(point)).filter(|&point| point != centre).collect();
+        black.sort();
+        black.dedup();
+        let black: Vec<(u128, u128)> = black.into_iter().map(place).collect();
+        let stones: Vec<Call> = white.into_iter().chain([centre]).map(place).map(|(row, column)| Call::Stone(row, column)).collect();
+        if self.model.clone().handicap(&narrow_points(&black)) != Reason::Accepted {
+            return;
+        }
+        self.call(Call::Handicap(black));
+        for (place, stone) in stones.iter().enumerate() {
+            self.call(stone.clone());
+            if place + 2 < stones.len() {
+                self.call(Call::Pass);
+            }
+        }
     }
 
     /// A ko in a corner out of a handicap: the one way to ask the superko test with two records and a ko point.
