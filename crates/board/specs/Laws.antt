@@ -5,7 +5,6 @@ pub mod Slots
 pub mod Views
 pub mod Stones
 pub mod Lists
-pub mod Distinct
 pub mod Tests
 pub mod Around
 pub mod Ring

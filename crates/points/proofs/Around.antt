@@ -1,15 +1,14 @@
 -- Four places, put one behind the other, hold what is present among them. Assumes nothing.
-use mathlib.Core.Path.{_≡_, refl, sym, ap, ap₂, _∙_}
+use mathlib.Core.Path.{_≡_, refl, sym, ap, _∙_}
 use mathlib.Core.List.{List, [], _∷_, _++_, append-nil}
 use mathlib.Core.Option.{Option, none, some}
 use Prim.Native.Nat.{ℕ, zero, suc, _+_, _-_, _<_}
 use native.Mathlib.Nat.{le-refl, sub-zero, zero-sub, suc-sub-suc}
 use native.Mathlib.Numerals.{add-one}
 use native.Mathlib.Omega.{arith}
-use lib.ListN.{length, getD, take, drop, set, replicate, length-set, take-append-drop}
+use lib.ListN.{length, take, drop, set, replicate, length-set}
 use lib.Seq.{take-suc-set, drop-set-lt, length-take-le}
 use Rattle.rules.specs.Lists.{present}
-use Rattle.points.specs.declared.coord.Around.{Around}
 use Rattle.points.specs.Around.{Holds, Put}
 
 pub put-none : (n : ℕ) (xs : List ℕ) → Put n xs none n xs
@@ -60,27 +59,3 @@ put-four {a} {b} {c} {d} {n₁} {n₂} {n₃} {n₄} {l₁} {l₂} {l₃} {l₄}
           s .rest n₄ (omega arith) ∙ r .rest n₄ (omega arith) ∙ q .rest n₄ (omega arith) ∙ p .rest n₄ (omega arith)
           ∙ drop-replicate n₄ 4 0;
     }
-
--- ---- What a caller has from the promise
-
--- the places are the list, and 0 behind it
-pub holds-points : (a : Around) (ps : List ℕ) → Holds a ps → a .points ≡ ps ++ replicate (4 - length ps) 0
-holds-points a ps h =
-    rw (h .counted, ← h .listed, ← h .rest) (sym (take-append-drop (a .count) (a .points)))
-
-getD-padded : (ps : List ℕ) (m i : ℕ) → getD (ps ++ replicate m 0) i 0 ≡ getD ps i 0
-getD-padded [] zero i = refl
-getD-padded [] (suc m) zero = refl
-getD-padded [] (suc m) (suc i) = getD-padded [] m i
-getD-padded (p ∷ ps) m zero = refl
-getD-padded (p ∷ ps) m (suc i) = getD-padded ps m i
-
--- each place has what the list has there
-pub holds-at : (a : Around) (ps : List ℕ) → Holds a ps → (i : ℕ) → getD (a .points) i 0 ≡ getD ps i 0
-holds-at a ps h i = rw (holds-points a ps h) (getD-padded ps (4 - length ps) i)
-
--- and the promise leaves nothing open
-pub holds-unique : (a b : Around) (ps : List ℕ) → Holds a ps → Holds b ps → a ≡ b
-holds-unique a b ps h k =
-    ap₂ (λ (n : ℕ) (l : List ℕ). record { count = n; points = l }) (sym (h .counted) ∙ k .counted)
-    (holds-points a ps h ∙ sym (holds-points b ps k))

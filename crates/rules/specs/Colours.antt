@@ -1,5 +1,5 @@
 -- Each point is empty, black or white (Tromp-Taylor 2). Colours are the numbers that 01 gives them.
-use mathlib.Core.Bool.{Bool, cond}
+use mathlib.Core.Bool.{cond}
 use mathlib.Core.List.{List}
 use Prim.Native.Nat.{ℕ}
 use lib.Dec.{eqb}

@@ -8,14 +8,14 @@ use Prim.Native.Nat.{ℕ}
 use lib.Dec.{eqb}
 use lib.ListN.{set, replicate}
 use Rattle.rules.specs.Lists.{all, below, has, same}
-use Rattle.rules.specs.Colours.{empty, black, white, other, at}
+use Rattle.rules.specs.Colours.{black, white, other, at}
 use Rattle.rules.specs.Points.{area, index, row, column, shifted, towards, sides, neighbours, corners}
 use Rattle.rules.specs.Flood.{fresh, flooded, marked, chain, shores, alive, clear}
 use Rattle.rules.specs.Chain.{size, liberty, liberties}
 use Rattle.rules.specs.Hash.{nextEntry, stoneHash, hash}
 use Rattle.rules.specs.Records.{lowBytes, fourColours, recordOf, capacity, stored, recorded, full, recordsAfter, bytesAfter}
 use Rattle.rules.specs.Flags.{KO, SUICIDE, FILLEYE, SUPERKO, forbids}
-use Rattle.rules.specs.Answers.{Answer, number, accepts, _then_, refuse}
+use Rattle.rules.specs.Answers.{number, accepts, _then_, refuse}
 use Rattle.rules.specs.Tests.{inAtari, suicide, isKoPoint, ko, friendly, friendlyCorners, twoOrThree, emptyCorners, eye, captures, superko}
 use Rattle.rules.specs.Move.{coloured, captured, played, removed, soleOf}
 use Rattle.rules.specs.Game.{Game, emptyBoard, freshGame}

@@ -2,6 +2,7 @@
 pub mod Lists
 pub mod Places
 pub mod Counting
+pub mod Distinct
 pub mod Colours
 pub mod Hash
 pub mod Points
@@ -13,5 +14,6 @@ pub mod ChainBound
 pub mod Move
 pub mod Records
 pub mod Stones
+pub mod Answers
 pub mod Calls
 pub mod Keep

@@ -1,5 +1,5 @@
 -- Rendering: one three-byte UTF-8 sign a point, a newline a row. Signs and their order of choice as in the crate's `pretty_string`.
-use mathlib.Core.Bool.{Bool, cond, _&&_}
+use mathlib.Core.Bool.{cond, _&&_}
 use mathlib.Core.List.{List, [], _∷_, _++_}
 use Prim.Native.Nat.{ℕ, zero, suc, _+_, _*_, _/_, _%_}
 use lib.Dec.{eqb, ltb}

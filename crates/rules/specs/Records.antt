@@ -1,7 +1,7 @@
 -- The history: lent bytes, a record of a board in each hundred. When a board is among the records, and how it becomes one.
 use mathlib.Core.Bool.{Bool, cond, not, _&&_}
 use mathlib.Core.List.{List, [], _∷_, _++_}
-use Prim.Native.Nat.{ℕ, suc, _+_, _*_, _/_, _%_, _^_}
+use Prim.Native.Nat.{ℕ, _+_, _*_, _/_, _%_, _^_}
 use lib.Dec.{leb}
 use lib.ListN.{length, take, drop}
 use Rattle.rules.specs.Sizes.{hashBytes, colourBytes, recordBytes}

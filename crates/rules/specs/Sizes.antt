@@ -1,5 +1,5 @@
 -- The sizes of 01, in their one home among the definitions. Every other file names them.
-use Prim.Native.Nat.{ℕ, _*_, _/_, _+_, _^_}
+use Prim.Native.Nat.{ℕ, _*_, _/_, _+_}
 
 -- height and width reach from 1 to 19
 abbrev pub maxSide : ℕ

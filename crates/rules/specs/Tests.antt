@@ -3,11 +3,11 @@
 use mathlib.Core.Bool.{Bool, true, false, cond, not, _&&_, _||_}
 use mathlib.Core.List.{List, [], _∷_}
 use mathlib.Core.Option.{Option, none, some}
-use Prim.Native.Nat.{ℕ, _+_}
+use Prim.Native.Nat.{ℕ}
 use lib.Dec.{eqb, ltb}
-use Rattle.rules.specs.Lists.{any, all, count, below, pick, present}
+use Rattle.rules.specs.Lists.{any, all, count, pick, present}
 use Rattle.rules.specs.Colours.{empty, other, at}
-use Rattle.rules.specs.Points.{area, neighbours, corners}
+use Rattle.rules.specs.Points.{neighbours, corners}
 use Rattle.rules.specs.Chain.{size, liberties}
 use Rattle.rules.specs.Records.{recorded}
 

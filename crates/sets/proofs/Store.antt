@@ -1,6 +1,6 @@
 -- A store to the byte of one point: the set that comes of it, for any operation that changes only that point's bit. `add_liberty`
 -- and `remove_liberty` are two such operations.
-use mathlib.Core.Bool.{Bool, true, false, not, _&&_, _||_, xor}
+use mathlib.Core.Bool.{Bool, true, false, not, _&&_, _||_, xor, or-false, and-true, and-false}
 use mathlib.Core.Path.{_≡_, refl, sym, ap, ap₂, _∙_, fun-ext}
 use mathlib.Core.List.{List}
 use Prim.Native.Nat.{ℕ, _/_, _%_, _^_, _≤_, _<_}
@@ -52,18 +52,6 @@ module _ (on : Bool → Bool → Bool) (kept : (b : Bool) → on b false ≡ b) 
       ])
 
 -- ---- The two operations
-
-or-false : (b : Bool) → (b || false) ≡ b
-or-false true = refl
-or-false false = refl
-
-and-true : (b : Bool) → (b && true) ≡ b
-and-true true = refl
-and-true false = refl
-
-and-false : (b : Bool) → (b && false) ≡ false
-and-false true = refl
-and-false false = refl
 
 -- `x ^ (x & m)` clears the bits of m
 cleared : (b c : Bool) → xor b (b && c) ≡ (b && not c)

@@ -20,12 +20,13 @@ use Rattle.rules.specs.Laws.Points.{neighbours-from}
 use Rattle.chains.specs.Group.{used}
 use Rattle.sets.specs.Liberties.{setOf}
 use Rattle.chains.specs.Walk.{stepped, walked}
+use Rattle.chains.specs.Laws.Walk.{walked-mem}
 use Rattle.sets.specs.Laws.Liberties.{setOf-ext}
 use Rattle.board.specs.declared.goban.Board.{Board}
 use Rattle.board.specs.Board.{owner, chainIn, colourAt}
 use Rattle.board.specs.True.{libertyOf, ExactChain, Shaped, ExactTable, TrueBoard}
 use Rattle.board.specs.Judge.{owned, shore, originIn, judged}
-use Rattle.board.specs.Laws.Ring.{walked-step, ring-distinct, distinct-first, ring-fills, shore-liberty}
+use Rattle.board.specs.Laws.Ring.{ring-distinct, distinct-first, ring-fills, shore-liberty}
 use Rattle.board.specs.Laws.Tests.{used-says, Placed, Apart, Joined, Told, Slotted, Judged, judged-says}
 
 -- ---- Short names
@@ -103,7 +104,7 @@ module _ (b : Board) (shape : Shaped b) (told : Judged b) where
     unfolding owned
     least p e =
         let m = ring-fills (b .height) (b .width) (owner b) (b .next) s (origin b s) (size b s) stands linked once (told .slotted s low .0) p e in
-        let (k, l, at) = walked-step (b .next) (origin b s) (size b s) m in
+        let (k, l, at) = walked-mem (b .next) (origin b s) (size b s) m in
         ⊎-elim (λ z. let first : p ≡ origin b s = at ∙ ap (stone b s) z in omega arith) (λ a. omega arith) (of-slot .onRing k l .1 .1)
 
     connected : (p : ℕ) → owner b p ≡ s → Walk (beside b) (owner b) s (origin b s) p

@@ -14,14 +14,13 @@ use Rattle.rules.specs.Points.{area}
 use Rattle.rules.specs.Colours.{empty, black, white, at}
 use Rattle.rules.specs.Hash.{stoneHash, hashFrom, hash}
 use Rattle.rules.specs.Game.{Player, TrueSize, TrueColours, stones, emptyBoard}
-use Rattle.rules.specs.Laws.Lists.{not-both, equal-or-not, getD-tabulate-zero, getD-replicate-same, count-positive}
+use Rattle.rules.specs.Laws.Lists.{not-both, equal-or-not, getD-tabulate-zero, getD-replicate-same, count-positive, mem-getD}
 use Rattle.chains.specs.Group.{freeChain, used}
 use Rattle.chains.specs.Laws.Group.{table-unused}
 use Rattle.board.specs.declared.goban.Board.{Board}
 use Rattle.board.specs.Board.{owner, chainIn, colourAt, coloursOf, newBoard}
 use Rattle.board.specs.True.{TrueBoard}
 use Rattle.board.specs.Laws.Board.{length-colours}
-use Rattle.board.specs.Laws.Lists.{mem-getD}
 
 -- ---- A board whose points are all empty
 

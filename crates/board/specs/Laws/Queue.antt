@@ -1,9 +1,9 @@
 -- Laws of the search's queue: what one push does, and that pushes add up.
 use mathlib.Core.Path.{_≡_, refl, sym, ap, ap₂, _∙_, subst}
-use mathlib.Core.Bool.{Bool, true, false, cond, not, _||_}
+use mathlib.Core.Bool.{Bool, true, false, cond, _||_, or-false, or-assoc}
 use mathlib.Core.List.{List, [], _∷_, _++_}
 use mathlib.Core.Logic.{⊎-elim}
-use Prim.Native.Nat.{ℕ, zero, suc, _+_, _≤_, _<_}
+use Prim.Native.Nat.{ℕ, _+_, _<_}
 use native.Mathlib.Nat.{le-refl, le-trans, lt-of-lt-of-le}
 use native.Mathlib.Omega.{arith}
 use lib.Dec.{eqb}
@@ -11,19 +11,11 @@ use lib.ListN.{length, getD, set, length-set}
 use lib.Seq.{getD-set-same, getD-set-other}
 use borrow.Author.Tests.{eq-eqb, ne-eqb}
 use Rattle.rules.specs.Sizes.{maxArea}
-use Rattle.rules.specs.Lists.{count, has, pick}
+use Rattle.rules.specs.Lists.{has, pick}
 use Rattle.rules.specs.Flood.{marked}
 use Rattle.rules.specs.Laws.Lists.{equal-or-not, getD-default, count-not-set}
 use Rattle.board.specs.Search.{Queued, Pushed}
 use Rattle.board.specs.Laws.Lists.{has-append, has-one, pick-next}
-
-or-false : (t : Bool) → (t || false) ≡ t
-or-false true = refl
-or-false false = refl
-
-or-assoc : (a b c : Bool) → ((a || b) || c) ≡ (a || (b || c))
-or-assoc true b c = refl
-or-assoc false b c = refl
 
 -- what is not marked leaves room in the queue
 pub queue-room : {marks : List Bool} {queue : List ℕ} {tail : ℕ} → Queued marks queue tail → (p : ℕ) → p < maxArea → marked marks p ≡ false → tail < maxArea

@@ -1,6 +1,6 @@
 -- The search finds exactly the points that a walk by their owner's points joins with the origin that their owner names. What is in the
 -- queue was reached, and what was looked at had all its kin pushed.
-use mathlib.Core.Path.{_≡_, refl, sym, ap, ap₂, _∙_, subst}
+use mathlib.Core.Path.{_≡_, refl, sym, ap, _∙_, subst}
 use mathlib.Core.Bool.{Bool, true, false, _||_}
 use mathlib.Core.List.{List, [], _∷_, List·Memᴰ, List·Memᴰ·head as head, List·Memᴰ·eq-of-singleton as eq-of-singleton}
 use mathlib.Core.Logic.{_↔_, ⊎-elim}
@@ -8,28 +8,21 @@ use Prim.Native.Nat.{ℕ, _+_, _≤_, _<_}
 use native.Mathlib.Nat.{not-suc-le-zero}
 use native.Mathlib.Omega.{arith}
 use lib.Dec.{eqb}
-use lib.ListN.{length, getD, replicate, length-replicate, getD-replicate}
+use lib.ListN.{getD, replicate, length-replicate}
 use borrow.Author.Count.{below-more}
 use borrow.Author.Tests.{eqb-true, eq-eqb}
 use Rattle.rules.specs.Sizes.{maxArea, slots}
-use Rattle.rules.specs.Lists.{all, below, pick, has}
+use Rattle.rules.specs.Lists.{all, below, has}
 use Rattle.rules.specs.Points.{area, neighbours}
 use Rattle.rules.specs.Reach.{Walk, here, step}
 use Rattle.rules.specs.Flood.{flooded, marked}
-use Rattle.rules.specs.Laws.Lists.{not-both, not-yes, decided, or-cases, or-left, or-right, getD-within, mem-below, below-mem, mem-has, has-mem, pick-mem, mem-pick, count-not-replicate, same-answer}
+use Rattle.rules.specs.Laws.Lists.{or-cases, or-left, or-right, mem-below, below-mem, mem-has, has-mem, pick-mem, mem-pick, count-not-replicate, same-answer, all-same}
 use Rattle.rules.specs.Laws.Points.{neighbours-on, neighbours-few}
 use Rattle.rules.specs.Laws.Reach.{walk-first, walk-on}
-use Rattle.rules.specs.Laws.Run.{flooded-marks}
+use Rattle.rules.specs.Laws.Run.{nothing-marked, flooded-marks}
 use Rattle.rules.specs.Laws.Flood.{eqb-means}
 use Rattle.board.specs.Judge.{joined}
 use Rattle.board.specs.Search.{Queued, Pushed, kin, seeds}
-use Rattle.board.specs.Laws.Lists.{all-same}
-
-nothing-marked : (n q : ℕ) → marked (replicate n false) q ≡ true → ⊥
-unfolding marked
-nothing-marked n q e =
-    let h : q < n = rw length-replicate at (getD-within (replicate n false) q false (not-both e)) in
-    not-both e (getD-replicate n q false false h)
 
 -- the search begins with nothing marked and nothing in the queue
 pub queued-none : Queued (replicate maxArea false) (replicate maxArea 0) 0

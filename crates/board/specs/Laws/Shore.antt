@@ -1,35 +1,19 @@
 -- Laws of the liberties that the judge collects: the empty points beside one stone after another.
-use mathlib.Core.Path.{_≡_, refl, sym, ap, ap₂, _∙_}
-use mathlib.Core.Bool.{Bool, true, false, _&&_, _||_}
+use mathlib.Core.Path.{_≡_, refl, sym, ap, _∙_}
+use mathlib.Core.Bool.{Bool, true, false, _&&_, _||_, or-false, or-true, and-false, and-or-distrib-left}
 use mathlib.Core.List.{List, [], _∷_, _++_}
 use mathlib.Core.Logic.{_≢_, ⊎-elim}
 use Prim.Native.Nat.{ℕ, _<_}
-use lib.Dec.{eqb, ltb}
+use lib.Dec.{eqb}
 use borrow.Author.Tests.{eq-eqb, ne-eqb, lt-ltb}
 use Rattle.rules.specs.Sizes.{maxArea, slots}
 use Rattle.rules.specs.Lists.{any, has}
 use Rattle.rules.specs.Points.{neighbours}
 use Rattle.rules.specs.Laws.Lists.{equal-or-not}
-use Rattle.sets.specs.Liberties.{setOf, LibertySet, none, added, libertyBits, has as libertyHas}
+use Rattle.sets.specs.Liberties.{setOf, LibertySet, none, added, has as libertyHas}
 use Rattle.sets.specs.Laws.Liberties.{set-is, setOf-ext, has-setOf, added-setOf}
 use Rattle.board.specs.Judge.{withEmpty, shore}
 use Rattle.board.specs.Laws.Lists.{has-append, has-one, any-append}
-
-or-false : (t : Bool) → (t || false) ≡ t
-or-false true = refl
-or-false false = refl
-
-or-true : (t : Bool) → (t || true) ≡ true
-or-true true = refl
-or-true false = refl
-
-and-false : (t : Bool) → (t && false) ≡ false
-and-false true = refl
-and-false false = refl
-
-and-or : (e a b : Bool) → ((e && a) || (e && b)) ≡ (e && (a || b))
-and-or true a b = refl
-and-or false a b = refl
 
 module _ (own : ℕ → ℕ) (set : List ℕ) where
   pub empty-none : LibertySet set → set ≡ setOf (withEmpty own set [])
@@ -80,7 +64,7 @@ module _ (h w : ℕ) (own : ℕ → ℕ) where
   shore-more ps p =
       setOf-ext _ _ (λ q l.
       ap (λ (t : Bool). t || (eqb (own q) slots && has (neighbours h w p) q)) (has-setOf (shore h w own ps) q l)
-      ∙ and-or (eqb (own q) slots) (any (λ r. has (neighbours h w r) q) ps) (has (neighbours h w p) q)
+      ∙ sym (and-or-distrib-left (eqb (own q) slots) (any (λ r. has (neighbours h w r) q) ps) (has (neighbours h w p) q))
       ∙ ap (λ (t : Bool). eqb (own q) slots && t)
       (sym
       (any-append (λ r. has (neighbours h w r) q) ps (p ∷ [])

@@ -1,22 +1,23 @@
 -- Counting slot by slot: the stones of a colour and the chains of the first n slots, and of one slot more.
-use mathlib.Core.Path.{_≡_, refl, sym, ap, ap₂, _∙_, subst}
-use mathlib.Core.Bool.{Bool, true, false, cond, _&&_, _||_}
+use mathlib.Core.Path.{_≡_, sym, ap, ap₂, _∙_, subst}
+use mathlib.Core.Bool.{Bool, true, cond, _&&_, _||_, and-false, and-or-distrib-left}
 use mathlib.Core.List.{List}
 use mathlib.Core.Logic.{_≢_, ⊎-elim}
-use Prim.Native.Nat.{ℕ, zero, suc, _+_, _≤_, _<_}
+use Prim.Native.Nat.{ℕ, _+_, _≤_, _<_}
 use native.Mathlib.Numerals.{add-one}
 use native.Mathlib.Omega.{arith}
 use lib.ListN.{getD}
 use lib.Dec.{eqb, ltb}
 use borrow.Author.Tests.{eqb-true, eqb-false, not-false, eq-eqb, ne-eqb, ltb-true, ltb-false, lt-ltb, le-ltb}
 use Rattle.rules.specs.Sizes.{slots}
-use Rattle.rules.specs.Lists.{tabulate, count, below}
+use Rattle.rules.specs.Lists.{count, below}
 use Rattle.rules.specs.Points.{area}
 use Rattle.rules.specs.Chain.{chains}
 use Rattle.rules.specs.Game.{Player, stones}
 use Rattle.rules.specs.Laws.Lists.{decided, equal-or-not, length-below, getD-default, and-left, and-right, not-both, not-yes}
 use Rattle.rules.specs.Laws.Counting.{count-most, count-none, count-or, count-same}
 use Rattle.rules.specs.Laws.Colours.{player-stone}
+use Rattle.rules.specs.Laws.Stones.{count-tabulate}
 use Rattle.chains.specs.declared.group.Chain.{Chain}
 use Rattle.chains.specs.Group.{used, freeChain}
 use Rattle.rules.specs.Laws.Places.{count-below-zero, count-below-suc, count-below-le}
@@ -55,11 +56,6 @@ usedBelow-all b is = sym (chains-used b is)
 
 -- ---- The stones
 
--- what is counted in a made list
-count-tabulate : {A : Type 0} (f : A → Bool) (g : ℕ → A) (i n : ℕ) → count f (tabulate g i n) ≡ count (λ k. f (g k)) (tabulate (λ k. k) i n)
-count-tabulate f g i zero = refl
-count-tabulate f g i (suc n) = ap (λ (m : ℕ). cond (f (g i)) 1 0 + m) (count-tabulate f g (suc i) n)
-
 pub stonesBelow-few : (b : Board) (c n : ℕ) → stonesBelow b c n ≤ area (b .height) (b .width)
 unfolding stonesBelow
 stonesBelow-few b c n =
@@ -85,14 +81,6 @@ module _ (b : Board) (is : TrueBoard b) (c : ℕ) where
       ⊎-elim (λ (e : s ≡ n). rw (m, eq-eqb s n e, lt-ltb s (n + 1) (omega arith)))
       (λ (a : s ≢ n). rw (m, ne-eqb s n a, le-ltb s (n + 1) (omega arith))) (equal-or-not s n))
       (decided (ltb s n))
-
-  and-none : (x : Bool) → (x && false) ≡ false
-  and-none true = refl
-  and-none false = refl
-
-  and-or : (x y z : Bool) → (x && (y || z)) ≡ ((x && y) || (x && z))
-  and-or true y z = refl
-  and-or false y z = refl
 
   -- a slot owns as many points as it says, also where it is free
   slot-count : (n : ℕ) → n < slots → count (λ p. eqb (owner b p) n) points ≡ chainIn b n .count
@@ -126,7 +114,7 @@ module _ (b : Board) (is : TrueBoard b) (c : ℕ) where
       own : chainIn b n .colour ≡ c → (p : ℕ) → (eqb c (colourAt b p) && eqb (owner b p) n) ≡ eqb (owner b p) n
       own e p =
           ⊎-elim (λ t. rw (t, eq-eqb c (colourAt b p) (sym (owner-colour b n p (eqb-true (owner b p) n t) ∙ e))))
-          (λ f. rw f (and-none (eqb c (colourAt b p))))
+          (λ f. rw f (and-false (eqb c (colourAt b p))))
           (decided (eqb (owner b p) n))
 
       not-own : chainIn b n .colour ≢ c → (p : ℕ) → (eqb c (colourAt b p) && eqb (owner b p) n) ≡ true → ⊥
@@ -141,7 +129,7 @@ module _ (b : Board) (is : TrueBoard b) (c : ℕ) where
   stonesBelow-next n under =
       count-same (λ p. eqb c (colourAt b p) && ltb (owner b p) (n + 1))
       (λ p. (eqb c (colourAt b p) && ltb (owner b p) n) || (eqb c (colourAt b p) && eqb (owner b p) n)) points
-      (λ p m. ap (λ (t : Bool). eqb c (colourAt b p) && t) (below-next (owner b p) n) ∙ and-or (eqb c (colourAt b p)) _ _)
+      (λ p m. ap (λ (t : Bool). eqb c (colourAt b p) && t) (below-next (owner b p) n) ∙ and-or-distrib-left (eqb c (colourAt b p)) _ _)
       ∙ count-or (λ p. eqb c (colourAt b p) && ltb (owner b p) n) (λ p. eqb c (colourAt b p) && eqb (owner b p) n) points
       (λ p m t.
       let l = ltb-true (owner b p) n (and-right (eqb c (colourAt b p)) _ t) in

@@ -17,7 +17,7 @@ use Rattle.rules.specs.Colours.{empty, at}
 use Rattle.rules.specs.Reach.{Walk}
 use Rattle.rules.specs.Flood.{chain, marked}
 use Rattle.rules.specs.Chain.{size, liberty, liberties, leads, chains}
-use Rattle.rules.specs.Laws.Lists.{decided, not-yes, not-both, and-left, and-right, and-both, any-yes, any-some, any-none, mem-below, below-mem, pick-mem, mem-pick}
+use Rattle.rules.specs.Laws.Lists.{decided, not-yes, not-both, and-left, and-right, and-both, any-yes, any-some, any-none, mem-below, below-mem, pick-mem, mem-pick, same-answer}
 use Rattle.rules.specs.Laws.Counting.{below-distinct, pick-distinct, length-pick, pigeonhole}
 use Rattle.rules.specs.Laws.Colours.{player-stone}
 use Rattle.rules.specs.Laws.Points.{neighbours-from}
@@ -32,10 +32,6 @@ use Rattle.board.specs.True.{libertyOf, ExactChain, TrueBoard}
 use Rattle.board.specs.Laws.Board.{area-fits, at-colours, empty-unowned, unowned-empty, owned-player, stone-owned}
 use Rattle.board.specs.Laws.Chains.{colours-at, walk-owned, owned-walk}
 
--- two tests that pass the same are the same
-same-test : {a b : Bool} → (a ≡ true → b ≡ true) → (b ≡ true → a ≡ true) → a ≡ b
-same-test {a} {b} f g = ⊎-elim (λ t. t ∙ sym (f t)) (λ n. n ∙ sym (not-yes (λ t. not-both (g t) n))) (decided a)
-
 -- the marks of a list, counted by their places
 pub count-marked : (marks : List Bool) → count (λ m. m) marks ≡ count (marked marks) (below (length marks))
 unfolding marked
@@ -48,7 +44,7 @@ module _ (b : Board) (is : TrueBoard b) where
 
   pub empty-owner : (q : ℕ) → eqb (at (coloursOf b) q) empty ≡ eqb (owner b q) slots
   empty-owner q =
-      same-test (λ t. eq-eqb (owner b q) slots (unowned-empty b (is .table) q (sym (at-colours b (is .table) q) ∙ eqb-true _ _ t)))
+      same-answer (λ t. eq-eqb (owner b q) slots (unowned-empty b (is .table) q (sym (at-colours b (is .table) q) ∙ eqb-true _ _ t)))
       (λ t. eq-eqb _ empty (at-colours b (is .table) q ∙ empty-unowned b (is .table) q (eqb-true (owner b q) slots t)))
 
   -- a used slot owns its origin
@@ -88,7 +84,7 @@ module _ (b : Board) (is : TrueBoard b) where
 
     pub marked-owner : (q : ℕ) → marked (chain (b .height) (b .width) (coloursOf b) p) q ≡ eqb (owner b q) (owner b p)
     marked-owner q =
-        same-test (λ m. eq-eqb (owner b q) (owner b p) (chain-owner q .0 m)) (λ e. chain-owner q .1 (eqb-true (owner b q) (owner b p) e))
+        same-answer (λ m. eq-eqb (owner b q) (owner b p) (chain-owner q .0 m)) (λ e. chain-owner q .1 (eqb-true (owner b q) (owner b p) e))
 
     pub chain-size : size (b .height) (b .width) (coloursOf b) p ≡ chainIn b (owner b p) .count
     unfolding size

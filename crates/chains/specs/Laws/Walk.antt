@@ -1,7 +1,7 @@
 -- Laws of the walk: a step may be taken first or last, and the walk's length is the greatest that stays among the points.
 use mathlib.Core.Bool.{Bool, true, false, cond}
 use mathlib.Core.Path.{_≡_, refl, sym, ap, _∙_, fun-ext}
-use mathlib.Core.List.{List, [], _∷_, _++_}
+use mathlib.Core.List.{List, [], _∷_, _++_, List·Memᴰ, Memᴰ·cast}
 use mathlib.Core.Logic.{_≢_}
 use Prim.Native.Nat.{ℕ, zero, suc, _+_, _≤_, _<_, min, zero-le, suc-le-suc}
 use native.Mathlib.Nat.{not-suc-le-zero, le-of-suc-le-suc, zero-add, add-zero, add-suc, suc-add}
@@ -14,7 +14,7 @@ use borrow.Author.Tests.{lt-ltb, le-ltb, ltb-true}
 use Rattle.rules.specs.Sizes.{maxArea}
 use Rattle.rules.specs.Lists.{tabulate}
 use Rattle.chains.specs.Walk.{stepped, walked, onBoard, walkLength}
-use Rattle.rules.specs.Laws.Lists.{length-tabulate, getD-tabulate}
+use Rattle.rules.specs.Laws.Lists.{length-tabulate, getD-tabulate, tabulate-mem, mem-tabulate}
 use Rattle.rules.specs.Laws.Places.{tabulate-ext, tabulate-suc, tabulate-shift}
 
 module _ (next : List ℕ) where
@@ -36,6 +36,14 @@ module _ (next : List ℕ) where
   pub getD-walked : (p n k d : ℕ) → k < n → getD (walked next p n) k d ≡ stepped next p k
   unfolding walked
   getD-walked p n k d h = getD-tabulate (stepped next p) 0 n k d h ∙ ap (stepped next p) (zero-add k)
+
+  pub walked-mem : (p n : ℕ) {q : ℕ} → List·Memᴰ q (walked next p n) → (k : ℕ) × (k < n) × (q ≡ stepped next p k)
+  unfolding walked
+  walked-mem p n m = let (k, l, e) = tabulate-mem (stepped next p) 0 n m in (k, l, e ∙ ap (stepped next p) (zero-add k))
+
+  pub mem-walked : (p n k : ℕ) → k < n → List·Memᴰ (stepped next p k) (walked next p n)
+  unfolding walked
+  mem-walked p n k h = Memᴰ·cast (ap (stepped next p) (sym (zero-add k))) (mem-tabulate (stepped next p) 0 n k h)
 
   pub walked-suc : (p n : ℕ) → walked next p (suc n) ≡ walked next p n ++ (stepped next p n ∷ [])
   unfolding walked

@@ -1,18 +1,17 @@
 -- Laws of Calls: what an accepted stone tells, and that it is a move of Tromp-Taylor 7 which leaves the colours true.
-use mathlib.Core.Path.{_≡_, refl, sym, ap, _∙_}
-use mathlib.Core.Bool.{Bool, true, false, cond, not, _&&_, _||_}
+use mathlib.Core.Path.{_≡_, refl, sym, ap, ap₂, _∙_}
+use mathlib.Core.Bool.{Bool, true, false, not, _&&_, _||_}
 use mathlib.Core.List.{List}
-use mathlib.Core.Logic.{_≢_, ⊎-elim}
+use mathlib.Core.Logic.{⊎-elim}
 use Prim.Native.Nat.{ℕ, _<_}
-use native.Mathlib.Omega.{arith}
 use lib.Dec.{eqb, ltb, leb}
-use borrow.Author.Tests.{eqb-true, leb-false, not-false, ltb-true, leb-true}
+use borrow.Author.Tests.{eqb-true, leb-false, not-false, ltb-true, ltb-false, leb-true, lt-leb, le-leb}
 use Rattle.rules.specs.Sizes.{maxSide}
 use Rattle.rules.specs.Colours.{empty, at}
 use Rattle.rules.specs.Points.{area, index, neighbours}
 use Rattle.rules.specs.Reach.{Move}
 use Rattle.rules.specs.Flags.{SUICIDE, forbids}
-use Rattle.rules.specs.Answers.{Answer, Accepted, Suicide, OffBoard, PointNotEmpty, number, accepts, _then_, refuse}
+use Rattle.rules.specs.Answers.{Answer, Suicide, OffBoard, PointNotEmpty, number, accepts, _then_, refuse}
 use Rattle.rules.specs.Tests.{suicide}
 use Rattle.rules.specs.Game.{Game, TrueGame, TrueColours, TrueSize}
 use Rattle.rules.specs.Calls.{sideOk, outside, offBoard, taken, resulting, forbiddenAnswer, pointAnswer, stoneAnswer}
@@ -51,6 +50,20 @@ size-true h w e =
       narrow = leb-true w maxSide (and-right (ltb 0 w) (leb w maxSide) wide);
     }
 
+-- ---- A row and a column, by the test
+
+leb-not : (n x : ℕ) → leb n x ≡ not (ltb x n)
+leb-not n x =
+    ⊎-elim (λ t. lt-leb n x (ltb-true x n t) ∙ sym (ap not t)) (λ f. le-leb n x (ltb-false x n f) ∙ sym (ap not f)) (decided (ltb x n))
+
+not-and : (u v : Bool) → (not u || not v) ≡ not (u && v)
+not-and true v = refl
+not-and false v = refl
+
+-- outside, or by the coordinates' test the other way round
+pub off-not-on : (h w r c : ℕ) → (leb h r || leb w c) ≡ not (ltb r h && ltb c w)
+off-not-on h w r c = ap₂ _||_ (leb-not h r) (leb-not w c) ∙ not-and (ltb r h) (ltb c w)
+
 -- ---- An accepted stone
 
 module _ (g : Game) (bytes : List ℕ) (r c : ℕ) where
@@ -78,7 +91,7 @@ module _ (g : Game) (bytes : List ℕ) (r c : ℕ) where
     accepted-no-suicide = refuse-not Suicide _ refl (then-first _ _ (then-second _ _ (then-second _ _ accepted)))
 
   module _ (is : TrueGame g) (accepted : accepts (stoneAnswer g bytes r c) ≡ true) where
-    point-accepted : accepts (pointAnswer g bytes (g .flags) r c) ≡ true
+    pub point-accepted : accepts (pointAnswer g bytes (g .flags) r c) ≡ true
     unfolding stoneAnswer
     point-accepted = then-first _ _ (then-second _ _ accepted)
 

@@ -12,7 +12,7 @@ use Rattle.rules.specs.Hash.{stoneHash, hashFrom, hash}
 
 -- ---- The exclusive or
 
-digit : (x : ℕ) → (x % 2 ≡ 0) ⊎ (x % 2 ≡ 1)
+pub digit : (x : ℕ) → (x % 2 ≡ 0) ⊎ (x % 2 ≡ 1)
 digit x = go (x % 2) (mod-lt x (zero-lt-suc 1))
   where
     go : (d : ℕ) → d < 2 → (d ≡ 0) ⊎ (d ≡ 1)

@@ -1,33 +1,33 @@
 -- Every accepted call keeps a game true. For a stone: the colours are true again, one stone more was put, and what is missing is held.
 use mathlib.Core.Path.{_≡_, refl, sym, ap, _∙_, subst}
-use mathlib.Core.Bool.{Bool, true, false, cond, not, _&&_, true≢false}
+use mathlib.Core.Bool.{Bool, true, false, not, _&&_, true≢false}
 use mathlib.Core.List.{List, [], _∷_, List·Memᴰ, List·Memᴰ·head as head}
 use mathlib.Core.Logic.{_≢_, _⊎_, inl, inr, ⊎-elim}
-use mathlib.Core.Option.{Option, none, some, Option·some-injective, Option·none-ne-some}
+use mathlib.Core.Option.{some, Option·some-injective, Option·none-ne-some}
 use Prim.Native.Nat.{ℕ, _+_, _≤_, _<_}
 use native.Mathlib.Omega.{arith}
 use lib.Dec.{eqb, leb}
 use lib.ListN.{length, getD, set, length-set}
 use lib.Seq.{getD-set-same, getD-set-other, set-out}
 use native.Mathlib.Nat.{mul-le-mul}
-use borrow.Author.Tests.{eqb-true, eqb-false, eq-eqb, ne-eqb, leb-false, not-false}
+use borrow.Author.Tests.{eqb-true, eqb-false, ne-eqb, leb-false, not-false}
 use Rattle.rules.specs.Sizes.{maxStones}
-use Rattle.rules.specs.Lists.{pick, below}
+use Rattle.rules.specs.Lists.{below}
 use Rattle.rules.specs.Points.{area, index, neighbours}
 use Rattle.rules.specs.Reach.{Reaches}
 use Rattle.rules.specs.Chain.{liberties}
 use Rattle.rules.specs.Colours.{empty, black, white, other, at}
-use Rattle.rules.specs.Answers.{Answer, GamePaused, OffBoard, PointNotEmpty, MoveLimit, NotAtStart, NoLiberty, number, accepts, _then_, refuse}
+use Rattle.rules.specs.Answers.{GamePaused, OffBoard, PointNotEmpty, MoveLimit, NotAtStart, NoLiberty, number, accepts}
 use Rattle.rules.specs.Move.{coloured, removed, soleOf}
 use Rattle.rules.specs.Game.{Game, TrueGame, TrueColours, Unbegun, Player, stones}
 use Rattle.rules.specs.Calls.{paused, pauseAnswer, passGame, resignGame, resumeGame, pointAnswer, resulting, stoneAnswer, oneIf, stoneGame, outside, Spot, layBlack, spotsAnswer, layAnswer, handicapAnswer, handicapGame, choked}
 use Rattle.rules.specs.Laws.Lists.{and-both, or-none-left, or-none-right, not-both, decided, equal-or-not, below-or-not, any-no, pick-mem, mem-below, below-mem}
 use Rattle.rules.specs.Laws.Points.{index-on}
-use Rattle.rules.specs.Laws.Colours.{at-within, player-stone, other-player}
+use Rattle.rules.specs.Laws.Colours.{at-within, other-player}
 use Rattle.rules.specs.Laws.Chain.{liberties-reaches}
 use Rattle.rules.specs.Laws.Stones.{stones-put, stones-removed, stones-most}
 use Rattle.rules.specs.Laws.Move.{put-length, played-else}
-use Rattle.rules.specs.Laws.Calls.{then-first, then-second, refuse-not, accepted-on, accepted-empty, accepted-no-suicide, stone-true}
+use Rattle.rules.specs.Laws.Calls.{then-first, then-second, refuse-not, accepted-on, accepted-empty, accepted-no-suicide, point-accepted, stone-true}
 
 -- a begun game asks nothing of one that is not
 begun-not : {A : Type 0} {b : Bool} → b ≡ true → b ≡ false → A
@@ -123,9 +123,8 @@ module _ (g : Game) (bytes : List ℕ) (r c : ℕ) (is : TrueGame g) (accepted :
   abbrev here : ℕ
   here = index (g .width) r c
 
-  point : accepts (pointAnswer g bytes (g .flags) r c) ≡ true
-  unfolding stoneAnswer
-  point = then-first _ _ (then-second _ _ accepted)
+  abbrev point : accepts (pointAnswer g bytes (g .flags) r c) ≡ true
+  point = point-accepted g bytes r c is accepted
 
   on : here < area (g .height) (g .width)
   on = accepted-on g bytes r c (g .flags) point

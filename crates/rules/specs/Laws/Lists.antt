@@ -1,7 +1,7 @@
 -- Laws of Lists: what a test over a list says of its elements, and what stands at each place of a made list.
-use mathlib.Core.Path.{_≡_, refl, sym, ap, ap₂, _∙_, subst}
+use mathlib.Core.Path.{_≡_, refl, sym, ap, ap₂, _∙_}
 use mathlib.Core.Bool.{Bool, true, false, cond, not, _&&_, _||_, true≢false, false≢true}
-use mathlib.Core.List.{List, [], _∷_, List·Memᴰ, List·Memᴰ·head, List·Memᴰ·tail, List·Memᴰ·not-nil, List·Memᴰ·cases-cons, Memᴰ·cast}
+use mathlib.Core.List.{List, [], _∷_, _++_, List·Memᴰ, List·Memᴰ·head, List·Memᴰ·tail, List·Memᴰ·not-nil, List·Memᴰ·cases-cons, Memᴰ·cast}
 use mathlib.Core.Logic.{_≢_, _⊎_, inl, inr, ⊎-elim, ⊎-map}
 use mathlib.Core.Option.{Option, none, some, Option·some-injective, Option·none-ne-some}
 use Prim.Native.Nat.{ℕ, zero, suc, _+_, _≤_, _<_, zero-le, suc-le-suc}
@@ -47,6 +47,12 @@ or-none-right false b e = e
 
 pub not-both : {a : Bool} → a ≡ true → a ≡ false → ⊥
 not-both p q = true≢false (sym p ∙ q)
+
+or-swap : (a b c d : Bool) → ((a || b) || (c || d)) ≡ ((a || c) || (b || d))
+or-swap true b c d = refl
+or-swap false true true d = refl
+or-swap false true false d = refl
+or-swap false false c d = refl
 
 -- the same value by either of two tests
 pub cond-or : {A : Type 0} (s t : Bool) (a b : A) → cond s a (cond t a b) ≡ cond (s || t) a b
@@ -99,6 +105,19 @@ module _ {A : Type 0} (f : ℕ → A) where
   getD-tabulate-beyond i (suc n) zero d h = absurd (not-suc-le-zero h)
   getD-tabulate-beyond i (suc n) (suc k) d h = getD-tabulate-beyond (suc i) n k d (le-of-suc-le-suc h)
 
+  pub tabulate-mem : (i n : ℕ) {x : A} → List·Memᴰ x (tabulate f i n) → (k : ℕ) × (k < n) × (x ≡ f (i + k))
+  tabulate-mem i zero m = absurd (List·Memᴰ·not-nil m)
+  tabulate-mem i (suc n) m =
+      ⊎-elim (λ e. (0, suc-le-suc zero-le, e ∙ ap f (sym (add-zero i))))
+      (λ t. let (k, l, e) = tabulate-mem (suc i) n t in (suc k, suc-le-suc l, e ∙ ap f (suc-add i k ∙ sym (add-suc i k))))
+      (List·Memᴰ·cases-cons m)
+
+  pub mem-tabulate : (i n k : ℕ) → k < n → List·Memᴰ (f (i + k)) (tabulate f i n)
+  mem-tabulate i zero k h = absurd (not-suc-le-zero h)
+  mem-tabulate i (suc n) zero h = List·Memᴰ·head (ap f (add-zero i))
+  mem-tabulate i (suc n) (suc k) h =
+      List·Memᴰ·tail (Memᴰ·cast (ap f (add-suc i k ∙ sym (suc-add i k))) (mem-tabulate (suc i) n k (le-of-suc-le-suc h)))
+
 -- ---- Places of a list
 
 module _ {A : Type 0} where
@@ -114,32 +133,24 @@ module _ {A : Type 0} where
   getD-default (x ∷ l) zero d e h = refl
   getD-default (x ∷ l) (suc p) d e h = getD-default l p d e (le-of-suc-le-suc h)
 
--- ---- Membership in the numbers below n
+  pub mem-getD : (l : List A) (p : ℕ) (d : A) → p < length l → List·Memᴰ (getD l p d) l
+  mem-getD [] p d h = absurd (not-suc-le-zero h)
+  mem-getD (x ∷ l) zero d h = List·Memᴰ·head refl
+  mem-getD (x ∷ l) (suc p) d h = List·Memᴰ·tail (mem-getD l p d (le-of-suc-le-suc h))
 
-mem-from : (i n k : ℕ) → k < n → List·Memᴰ (i + k) (tabulate (λ j. j) i n)
-mem-from i zero k h = absurd (not-suc-le-zero h)
-mem-from i (suc n) zero h = List·Memᴰ·head (add-zero i)
-mem-from i (suc n) (suc k) h =
-    List·Memᴰ·tail (subst (λ (m : ℕ). List·Memᴰ m (tabulate (λ j. j) (suc i) n)) (suc-add i k ∙ sym (add-suc i k)) (mem-from (suc i) n k (le-of-suc-le-suc h)))
+-- ---- Membership in the numbers below n
 
 pub mem-below : (n k : ℕ) → k < n → List·Memᴰ k (below n)
 unfolding below
-mem-below n k h = subst (λ (m : ℕ). List·Memᴰ m (tabulate (λ j. j) 0 n)) (zero-add k) (mem-from 0 n k h)
-
-from-mem : (i n k : ℕ) → List·Memᴰ k (tabulate (λ j. j) i n) → k < i + n
-from-mem i zero k m = absurd (List·Memᴰ·not-nil m)
-from-mem i (suc n) k m =
-    ⊎-elim (λ e. omega arith) (λ t. let ih : k < suc i + n = from-mem (suc i) n k t in omega arith) (List·Memᴰ·cases-cons m)
+mem-below n k h = Memᴰ·cast (sym (zero-add k)) (mem-tabulate (λ (j : ℕ). j) 0 n k h)
 
 -- the numbers from i on are no smaller than i
 pub from-least : (i n k : ℕ) → List·Memᴰ k (tabulate (λ j. j) i n) → i ≤ k
-from-least i zero k m = absurd (List·Memᴰ·not-nil m)
-from-least i (suc n) k m =
-    ⊎-elim (λ e. omega arith) (λ t. let ih : suc i ≤ k = from-least (suc i) n k t in omega arith) (List·Memᴰ·cases-cons m)
+from-least i n k m = let (j, l, e) = tabulate-mem (λ (j : ℕ). j) i n m in omega arith
 
 pub below-mem : (n k : ℕ) → List·Memᴰ k (below n) → k < n
 unfolding below
-below-mem n k m = rw (zero-add n) at (from-mem 0 n k m)
+below-mem n k m = let (j, l, e) = tabulate-mem (λ (j : ℕ). j) 0 n m in omega arith
 
 pub length-below : (n : ℕ) → length (below n) ≡ n
 unfolding below
@@ -199,6 +210,35 @@ module _ {A : Type 0} (f : A → Bool) where
   pub count-positive : {x : A} {xs : List A} → List·Memᴰ x xs → f x ≡ true → 0 < count f xs
   count-positive (List·Memᴰ·head {x} {xs} e) p = let q : f x ≡ true = ap f (sym e) ∙ p in rw q (omega arith)
   count-positive (List·Memᴰ·tail {x} {xs} m) p = let h : 0 < count f xs = count-positive m p in omega arith
+
+-- ---- Tests that agree on the list's elements
+
+module _ {A : Type 0} where
+  pub any-same : (f g : A → Bool) (xs : List A) → ((x : A) → List·Memᴰ x xs → f x ≡ g x) → any f xs ≡ any g xs
+  any-same f g [] h = refl
+  any-same f g (x ∷ xs) h = ap₂ _||_ (h x (List·Memᴰ·head refl)) (any-same f g xs (λ y m. h y (List·Memᴰ·tail m)))
+
+  pub all-same : (f g : A → Bool) (xs : List A) → ((x : A) → List·Memᴰ x xs → f x ≡ g x) → all f xs ≡ all g xs
+  all-same f g [] h = refl
+  all-same f g (x ∷ xs) h = ap₂ _&&_ (h x (List·Memᴰ·head refl)) (all-same f g xs (λ y m. h y (List·Memᴰ·tail m)))
+
+  pub pick-same : (f g : A → Bool) (xs : List A) → ((x : A) → List·Memᴰ x xs → f x ≡ g x) → pick f xs ≡ pick g xs
+  pick-same f g [] h = refl
+  pick-same f g (x ∷ xs) h =
+      ap₂ (λ (t : Bool) (l : List A). cond t (x ∷ l) l) (h x (List·Memᴰ·head refl)) (pick-same f g xs (λ y m. h y (List·Memᴰ·tail m)))
+
+  -- a test that is one of two
+  pub any-or : (f g h : A → Bool) (xs : List A) → ((x : A) → h x ≡ (f x || g x)) → any h xs ≡ (any f xs || any g xs)
+  any-or f g h [] each = refl
+  any-or f g h (x ∷ xs) each = ap₂ _||_ (each x) (any-or f g h xs each) ∙ or-swap (f x) (g x) (any f xs) (any g xs)
+
+  pub pick-append : (f : A → Bool) (xs ys : List A) → pick f (xs ++ ys) ≡ pick f xs ++ pick f ys
+  pick-append f [] ys = refl
+  pick-append f (x ∷ xs) ys = ap (λ (l : List A). cond (f x) (x ∷ l) l) (pick-append f xs ys) ∙ go (f x)
+    where
+      go : (t : Bool) → cond t (x ∷ (pick f xs ++ pick f ys)) (pick f xs ++ pick f ys) ≡ cond t (x ∷ pick f xs) (pick f xs) ++ pick f ys
+      go true = refl
+      go false = refl
 
 -- ---- Counting what is not marked
 

@@ -5,9 +5,8 @@ use mathlib.Core.List.{List, [], _∷_, _++_}
 use mathlib.Core.Logic.{⊎-elim}
 use Prim.Native.Nat.{ℕ, zero, suc, _+_, _≤_, _<_, zero-le, suc-le-suc}
 use native.Mathlib.Nat.{not-suc-le-zero, le-of-suc-le-suc, add-zero, zero-add, add-suc, suc-add, add-assoc, eq-or-lt-of-le}
-use native.Mathlib.Numerals.{one-add}
+use native.Mathlib.Numerals.{one-add, add-one}
 use native.Mathlib.Omega.{arith}
-use lib.ListN.{length, getD}
 use Rattle.rules.specs.Lists.{tabulate, count, below}
 
 module _ {A : Type 0} where
@@ -35,6 +34,10 @@ module _ {A : Type 0} where
   count-append f [] ys = sym (zero-add (count f ys))
   count-append f (x ∷ xs) ys =
       ap (λ (n : ℕ). cond (f x) 1 0 + n) (count-append f xs ys) ∙ sym (add-assoc (cond (f x) 1 0) (count f xs) (count f ys))
+
+pub below-next : (n : ℕ) → below (n + 1) ≡ below n ++ (n ∷ [])
+unfolding below
+below-next n = rw add-one (tabulate-suc (λ i. i) 0 n ∙ ap (λ (k : ℕ). tabulate (λ i. i) 0 n ++ (k ∷ [])) (zero-add n))
 
 -- ---- Counts over the numbers below n
 

@@ -177,7 +177,7 @@ module _ {beside : ℕ → List ℕ} {pass : ℕ → Bool} {final : List Bool} w
 
 -- ---- From nothing marked, a run marks what its seeds' walks reach
 
-nothing-marked : (n q : ℕ) → marked (replicate n false) q ≡ true → ⊥
+pub nothing-marked : (n q : ℕ) → marked (replicate n false) q ≡ true → ⊥
 unfolding marked
 nothing-marked n q e =
     let h : q < n = rw length-replicate at (getD-within (replicate n false) q false (not-both e)) in

@@ -1,25 +1,24 @@
 -- Laws of counting stones: a stone put on an empty point is one more of its colour, and what clearing takes is what is missing after it.
 use mathlib.Core.Path.{_≡_, refl, sym, ap, ap₂, _∙_}
 use mathlib.Core.Bool.{Bool, true, false, cond, _&&_, _||_}
-use mathlib.Core.List.{List, [], _∷_}
+use mathlib.Core.List.{List}
 use mathlib.Core.Logic.{_≢_, _⊎_, ⊎-elim}
 use Prim.Native.Nat.{ℕ, zero, suc, _+_, _≤_, _<_}
-use native.Mathlib.Omega.{arith}
 use lib.Dec.{eqb}
 use lib.ListN.{length, getD, set, replicate, length-set}
 use lib.Seq.{ext-getD}
-use borrow.Author.Tests.{eqb-true, eqb-false, eq-eqb, ne-eqb}
-use Rattle.rules.specs.Lists.{tabulate, count, pick, below}
+use borrow.Author.Tests.{eqb-true, eq-eqb, ne-eqb}
+use Rattle.rules.specs.Lists.{tabulate, count, below}
 use Rattle.rules.specs.Points.{area}
-use Rattle.rules.specs.Colours.{empty, black, white, at}
+use Rattle.rules.specs.Colours.{empty, at}
 use Rattle.rules.specs.Move.{removed}
-use Rattle.rules.specs.Game.{stones, emptyBoard}
+use Rattle.rules.specs.Game.{stones}
 use Rattle.rules.specs.Calls.{oneIf}
-use Rattle.rules.specs.Laws.Lists.{and-left, and-right, and-both, or-cases, or-left, or-right, not-both, not-yes, decided, equal-or-not, same-answer, length-tabulate, getD-tabulate-zero, getD-set, below-mem, mem-below, length-below}
+use Rattle.rules.specs.Laws.Lists.{and-left, and-right, and-both, or-cases, or-left, or-right, not-both, not-yes, decided, equal-or-not, same-answer, length-tabulate, getD-tabulate-zero, getD-set, mem-below}
 use Rattle.rules.specs.Laws.Counting.{below-distinct, length-pick, count-same, count-or, count-none, count-equal, count-most}
 
 -- a list is what stands at its places
-count-tabulate : {A : Type 0} (f : A → Bool) (g : ℕ → A) (i n : ℕ) → count f (tabulate g i n) ≡ count (λ k. f (g k)) (tabulate (λ k. k) i n)
+pub count-tabulate : {A : Type 0} (f : A → Bool) (g : ℕ → A) (i n : ℕ) → count f (tabulate g i n) ≡ count (λ k. f (g k)) (tabulate (λ k. k) i n)
 count-tabulate f g i zero = refl
 count-tabulate f g i (suc n) = ap (λ (m : ℕ). cond (f (g i)) 1 0 + m) (count-tabulate f g (suc i) n)
 

@@ -3,7 +3,7 @@ use mathlib.Core.Bool.{Bool, true, false, cond, _&&_, _||_, xor}
 use mathlib.Core.Path.{_≡_, refl, sym, ap, ap₂, _∙_, fun-ext}
 use mathlib.Core.Logic.{_⊎_, inl, inr, ⊎-elim}
 use Prim.Native.Nat.{ℕ, zero, suc, _+_, _*_, _/_, _%_, _^_, _<_}
-use native.Mathlib.Nat.{not-suc-le-zero, le-of-suc-le-suc, pow-suc, mod-lt, zero-lt-suc}
+use native.Mathlib.Nat.{not-suc-le-zero, le-of-suc-le-suc, pow-suc, zero-lt-suc}
 use native.Mathlib.Numerals.{one-add}
 use native.Mathlib.Omega.{arith}
 use lib.Dec.{eqb, eqb·zero-suc, eqb·suc-zero, eqb·suc-suc}
@@ -14,15 +14,8 @@ use lib.Count.{ones, ones-step}
 use borrow.Author.Tests.{eq-eqb, ne-eqb}
 use Rattle.rules.specs.Lists.{count, below}
 use Rattle.sets.specs.Liberties.{bitAt, numberOf}
+use Rattle.rules.specs.Laws.Hash.{digit}
 use Rattle.rules.specs.Laws.Places.{count-below-zero, count-below-first}
-
-digit : (x : ℕ) → (x % 2 ≡ 0) ⊎ (x % 2 ≡ 1)
-digit x = go (x % 2) (mod-lt x (zero-lt-suc 1))
-  where
-    go : (d : ℕ) → d < 2 → (d ≡ 0) ⊎ (d ≡ 1)
-    go zero h = inl refl
-    go (suc zero) h = inr refl
-    go (suc (suc d)) h = absurd (not-suc-le-zero (le-of-suc-le-suc (le-of-suc-le-suc h)))
 
 -- ---- An operation that works digit by digit works bit by bit
 

@@ -1,6 +1,6 @@
 -- A liberty set is known by its points: the set of a test has what the test says, and two sets with the same points are equal. So
 -- whatever has the points that an operation is to have is what the operation gives.
-use mathlib.Core.Bool.{Bool, true, false, not, _&&_, _||_}
+use mathlib.Core.Bool.{Bool, true, false, not, _&&_, _||_, or-comm, or-assoc, or-self}
 use mathlib.Core.Path.{_≡_, refl, sym, ap, ap₂, _∙_}
 use mathlib.Core.List.{List}
 use mathlib.Core.Logic.{_≢_}
@@ -201,20 +201,6 @@ number-setOf f = count-below-ext (has (setOf f)) f libertyBits (has-setOf f)
 
 -- ---- The union as an algebra
 
-or-comm : (a b : Bool) → (a || b) ≡ (b || a)
-or-comm true true = refl
-or-comm true false = refl
-or-comm false true = refl
-or-comm false false = refl
-
-or-assoc : (a b c : Bool) → (a || b || c) ≡ (a || (b || c))
-or-assoc true b c = refl
-or-assoc false b c = refl
-
-or-same : (a : Bool) → (a || a) ≡ a
-or-same true = refl
-or-same false = refl
-
 pub united-comm : (a b : List ℕ) → united a b ≡ united b a
 unfolding united
 united-comm a b = setOf-ext (λ q. has a q || has b q) (λ q. has b q || has a q) (λ q h. or-comm (has a q) (has b q))
@@ -228,7 +214,7 @@ united-assoc a b c =
 
 pub united-same : (a : List ℕ) → LibertySet a → united a a ≡ a
 unfolding united
-united-same a s = sym (set-is a (λ q. has a q || has a q) s (λ q h. sym (or-same (has a q))))
+united-same a s = sym (set-is a (λ q. has a q || has a q) s (λ q h. sym (or-self (has a q))))
 
 pub united-none : (a : List ℕ) → LibertySet a → united none a ≡ a
 unfolding united

@@ -13,7 +13,8 @@ use Rattle.rules.specs.Points.{neighbours, area}
 use Rattle.rules.specs.Laws.Points.{neighbours-on}
 use Rattle.sets.specs.Liberties.{setOf, added}
 use Rattle.board.specs.Judge.{ownerIn, withEmpty}
-use Rattle.board.specs.Laws.Lists.{mem-getD, take-next}
+use Rattle.rules.specs.Laws.Lists.{mem-getD}
+use Rattle.board.specs.Laws.Lists.{take-next}
 use Rattle.board.specs.Laws.Around.{held-length, held-at}
 use Rattle.board.specs.Laws.Shore.{empty-none, empty-more, empty-past}
 use borrow.Author.Needs.{needs}

@@ -8,7 +8,7 @@ use Rattle.rules.specs.Lists.{pick, below}
 use Rattle.rules.specs.Points.{area}
 use Rattle.board.specs.Judge.{ownerIn, slotValue}
 use Rattle.board.specs.Search.{Pushed, seeds}
-use Rattle.board.specs.Laws.Lists.{below-next}
+use Rattle.rules.specs.Laws.Places.{below-next}
 use Rattle.board.specs.Laws.Queue.{pushed-none, pushed-next}
 use borrow.Author.Needs.{needs}
 use Rattle.board.proofs.search.start.Statement.{statement}

@@ -1,39 +1,25 @@
 -- Laws of lists with no repeats: when a tabulated list is one, and that such a list fills any other that is no longer and has all its
 -- elements.
-use mathlib.Core.Path.{_≡_, sym, ap, _∙_}
-use mathlib.Core.List.{List, _∷_, List·Memᴰ, List·Memᴰ·head as head, List·Memᴰ·tail as tail, List·Memᴰ·not-nil as not-nil}
-use mathlib.Core.List.{List·Memᴰ·cases-cons as cases-cons, Memᴰ·cast}
+use mathlib.Core.Path.{sym, ap, _∙_}
+use mathlib.Core.List.{List, _∷_, List·Memᴰ, List·Memᴰ·cases-cons as cases-cons, Memᴰ·cast}
 use mathlib.Core.Logic.{_≢_, ⊎-elim}
 use Prim.Native.Nat.{ℕ, zero, suc, _+_, _≤_, _<_, zero-le, suc-le-suc}
 use native.Mathlib.Nat.{add-zero, add-suc, suc-add, not-suc-le-zero, le-of-suc-le-suc}
 use native.Mathlib.Omega.{arith}
 use lib.ListN.{length}
 use Rattle.rules.specs.Lists.{tabulate, has, Distinct}
-use Rattle.rules.specs.Laws.Lists.{decided, has-mem, has-not}
+use Rattle.rules.specs.Laws.Lists.{decided, tabulate-mem, mem-tabulate, has-mem, has-not}
 use Rattle.rules.specs.Laws.Counting.{distinct-fewer}
 
--- ---- What stands in a tabulated list
+-- ---- A tabulated list
 
 module _ {A : Type 0} (f : ℕ → A) where
-  pub tabulate-mem : (i n : ℕ) {x : A} → List·Memᴰ x (tabulate f i n) → (k : ℕ) × (k < n) × (x ≡ f (i + k))
-  tabulate-mem i zero m = absurd (not-nil m)
-  tabulate-mem i (suc n) m =
-      ⊎-elim (λ e. (0, suc-le-suc zero-le, e ∙ ap f (sym (add-zero i))))
-      (λ t. let (k, l, e) = tabulate-mem (suc i) n t in (suc k, suc-le-suc l, e ∙ ap f (suc-add i k ∙ sym (add-suc i k))))
-      (cases-cons m)
-
-  pub mem-tabulate : (i n k : ℕ) → k < n → List·Memᴰ (f (i + k)) (tabulate f i n)
-  mem-tabulate i zero k l = absurd (not-suc-le-zero l)
-  mem-tabulate i (suc n) zero l = head (ap f (add-zero i))
-  mem-tabulate i (suc n) (suc k) l =
-      tail (Memᴰ·cast (ap f (add-suc i k ∙ sym (suc-add i k))) (mem-tabulate (suc i) n k (le-of-suc-le-suc l)))
-
   -- no two places hold the same
   pub tabulate-distinct : (i n : ℕ) → ((j k : ℕ) → j < k → k < n → f (i + j) ≢ f (i + k)) → Distinct (tabulate f i n)
   tabulate-distinct i zero apart = tt
   tabulate-distinct i (suc n) apart = (
     λ m.
-        let (k, l, e) = tabulate-mem (suc i) n m in
+        let (k, l, e) = tabulate-mem f (suc i) n m in
         apart 0 (suc k) (suc-le-suc zero-le) (suc-le-suc l) (ap f (add-zero i) ∙ e ∙ ap f (suc-add i k ∙ sym (add-suc i k))),
     tabulate-distinct (suc i) n
         (λ j k l m e.
@@ -45,7 +31,7 @@ module _ {A : Type 0} (f : ℕ → A) where
   distinct-tabulate i zero d j k l m e = not-suc-le-zero m
   distinct-tabulate i (suc n) d j zero l m e = not-suc-le-zero l
   distinct-tabulate i (suc n) (new, d) zero (suc k) l m e =
-      new (Memᴰ·cast (ap f (sym (add-zero i)) ∙ e ∙ ap f (add-suc i k ∙ sym (suc-add i k))) (mem-tabulate (suc i) n k (le-of-suc-le-suc m)))
+      new (Memᴰ·cast (ap f (sym (add-zero i)) ∙ e ∙ ap f (add-suc i k ∙ sym (suc-add i k))) (mem-tabulate f (suc i) n k (le-of-suc-le-suc m)))
   distinct-tabulate i (suc n) (new, d) (suc j) (suc k) l m e =
       distinct-tabulate (suc i) n d j k (le-of-suc-le-suc l) (le-of-suc-le-suc m)
       (ap f (suc-add i j ∙ sym (add-suc i j)) ∙ e ∙ ap f (add-suc i k ∙ sym (suc-add i k)))
