@@ -1,6 +1,6 @@
--- What passes either of two tests: whether any does, how many do, and the lesser of two numbers.
-use mathlib.Core.Bool.{Bool, true, false, cond, _&&_, _||_}
-use mathlib.Core.Path.{_≡_, refl, sym, ap₂, _∙_}
+-- What passes either of two tests: how many do, and the lesser of two numbers.
+use mathlib.Core.Bool.{Bool, true, false, cond, _||_}
+use mathlib.Core.Path.{_≡_, refl, sym}
 use mathlib.Core.List.{List, [], _∷_}
 use mathlib.Core.Logic.{_⊎_, ⊎-elim}
 use Prim.Native.Nat.{ℕ, _+_, _≤_}
@@ -8,32 +8,14 @@ use native.Mathlib.Nat.{zero-add}
 use native.Mathlib.Omega.{arith}
 use lib.Dec.{ltb}
 use borrow.Author.Tests.{ltb-true, ltb-false}
-use Rattle.rules.specs.Lists.{any, count}
+use Rattle.rules.specs.Lists.{count}
 use Rattle.rules.specs.Laws.Lists.{decided}
-
-pub or-none : (a : Bool) → (a || false) ≡ a
-or-none true = refl
-or-none false = refl
-
-pub and-or : (a b c : Bool) → (a && (b || c)) ≡ ((a && b) || (a && c))
-and-or true b c = refl
-and-or false b c = refl
-
-or-swap : (a b c d : Bool) → ((a || b) || (c || d)) ≡ ((a || c) || (b || d))
-or-swap true b c d = refl
-or-swap false true true d = refl
-or-swap false true false d = refl
-or-swap false false c d = refl
 
 pub not-both-sum : (a b : Bool) → (a ≡ true → b ≡ false) → cond (a || b) 1 0 ≡ cond a 1 0 + cond b 1 0
 not-both-sum true b other = rw (other refl)
 not-both-sum false b other = sym (zero-add (cond b 1 0))
 
 module _ {A : Type 0} (f g h : A → Bool) where
-  pub any-or : (xs : List A) → ((x : A) → h x ≡ (f x || g x)) → any h xs ≡ (any f xs || any g xs)
-  any-or [] each = refl
-  any-or (x ∷ xs) each = ap₂ (λ (a b : Bool). a || b) (each x) (any-or xs each) ∙ or-swap (f x) (g x) (any f xs) (any g xs)
-
   pub count-sum : (xs : List A) → ((x : A) → cond (h x) 1 0 ≡ cond (f x) 1 0 + cond (g x) 1 0) → count h xs ≡ count f xs + count g xs
   count-sum [] each = refl
   count-sum (x ∷ xs) each = let ih = count-sum xs each in omega (arith, each x)

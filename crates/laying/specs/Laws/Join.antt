@@ -1,8 +1,7 @@
 -- Joining two chains keeps the table exact: the stones of the one slot go over to the other, no colour changes, the two rings are one,
 -- and the liberties are those of both.
-use mathlib.Core.Bool.{Bool, true, false, cond, _&&_, _||_}
+use mathlib.Core.Bool.{Bool, true, false, cond, _&&_, _||_, or-false, and-or-distrib-left}
 use mathlib.Core.Path.{_≡_, refl, sym, ap, ap₂, _∙_, subst, fun-ext}
-use mathlib.Core.List.{List}
 use mathlib.Core.Logic.{_≢_, _⊎_, inl, inr, ⊎-elim, ⊎-map}
 use Prim.Native.Nat.{ℕ, _+_, _≤_, _<_}
 use native.Mathlib.Nat.{add-comm}
@@ -16,11 +15,11 @@ use Rattle.rules.specs.Lists.{tabulate, any, count, below}
 use Rattle.rules.specs.Points.{area, neighbours}
 use Rattle.rules.specs.Hash.{hash}
 use Rattle.rules.specs.Game.{Player}
-use Rattle.rules.specs.Reach.{Walk, here, step}
-use Rattle.rules.specs.Laws.Lists.{decided, not-both, equal-or-not, or-right, length-below}
+use Rattle.rules.specs.Reach.{Walk}
+use Rattle.rules.specs.Laws.Lists.{decided, not-both, equal-or-not, or-right, length-below, any-or}
 use Rattle.rules.specs.Laws.Counting.{count-most}
 use Rattle.rules.specs.Laws.Points.{neighbours-sym}
-use Rattle.rules.specs.Laws.Reach.{walk-join, walk-on, walk-reverse}
+use Rattle.rules.specs.Laws.Reach.{walk-join, walk-on, walk-reverse, walk-renamed}
 use Rattle.chains.specs.declared.group.Chain.{Chain}
 use Rattle.chains.specs.Group.{used, freeChain}
 use Rattle.sets.specs.Liberties.{setOf, united as both}
@@ -32,16 +31,9 @@ use Rattle.board.specs.True.{libertyOf, ExactChain, Shaped, ExactTable}
 use Rattle.laying.specs.Steps.{united, join}
 use Rattle.laying.specs.Links.{Ring, RingOf}
 use Rattle.laying.specs.Joining.{Joining, Touching}
-use Rattle.laying.specs.Laws.Either.{or-none, and-or, not-both-sum, any-or, count-sum, least-of}
+use Rattle.laying.specs.Laws.Either.{not-both-sum, count-sum, least-of}
 use Rattle.laying.specs.Laws.Ring.{ring, length-owning, owned-within, owner-owning}
 use Rattle.laying.specs.Laws.Links.{ring-last, ring-kept, rings-crossed, used-some, some-used, exact-ring}
-
--- a walk over points of one colour is one over any colouring that gives them one colour
-walk-recoloured :
-    {beside : ℕ → List ℕ} {col col′ : ℕ → ℕ} {c c′ p q : ℕ} →
-    ((x : ℕ) → col x ≡ c → col′ x ≡ c′) → Walk beside col c p q → Walk beside col′ c′ p q
-walk-recoloured {p} to (here e) = here (to p e)
-walk-recoloured {p} to (step e m w) = step (to p e) m (walk-recoloured to w)
 
 -- ---- What the join leaves
 
@@ -88,7 +80,7 @@ module _ (b : Board) (t f : ℕ) (is : Joining b t f) where
       (λ e. eq-eqb (owner (join b t f) q) t (owner-moved q e) ∙ sym (or-right (eqb (owner b q) t) (eq-eqb (owner b q) f e)))
       (λ n.
       ap (λ (s : ℕ). eqb s t) (owner-stayed q n)
-      ∙ sym (ap (λ (x : Bool). eqb (owner b q) t || x) (ne-eqb (owner b q) f n) ∙ or-none (eqb (owner b q) t)))
+      ∙ sym (ap (λ (x : Bool). eqb (owner b q) t || x) (ne-eqb (owner b q) f n) ∙ or-false (eqb (owner b q) t)))
       (equal-or-not (owner b q) f)
 
   owns-other : (u q : ℕ) → u ≢ t → u ≢ f → eqb (owner (join b t f) q) u ≡ eqb (owner b q) u
@@ -243,7 +235,7 @@ module _ (b : Board) (t f : ℕ) (is : Joining b t f) where
       ap₂ (λ (x y : Bool). x && y)
       (owns-other slots q (λ e. let low = is .to-low in omega arith) (λ e. let low = is .from-low in omega arith))
       (any-or (λ r. eqb (owner b r) t) (λ r. eqb (owner b r) f) (λ r. eqb (owner (join b t f) r) t) (neighbours (b .height) (b .width) q) owns-to)
-      ∙ and-or (eqb (owner b q) slots) (any (λ r. eqb (owner b r) t) (neighbours (b .height) (b .width) q))
+      ∙ and-or-distrib-left (eqb (owner b q) slots) (any (λ r. eqb (owner b r) t) (neighbours (b .height) (b .width) q))
       (any (λ r. eqb (owner b r) f) (neighbours (b .height) (b .width) q))
 
   liberty-other : (u q : ℕ) → u ≢ t → u ≢ f → libertyOf (join b t f) u q ≡ libertyOf b u q
@@ -273,7 +265,7 @@ module _ (b : Board) (t f : ℕ) (is : Joining b t f) where
         connected =
             λ p e.
             subst (λ (c : Chain). Walk (neighbours (b .height) (b .width)) (owner (join b t f)) u (c .origin) p) (sym same)
-            (walk-recoloured (λ q. owner-kept u q m) (before .connected p (owner-before u p n e)));
+            (walk-renamed (λ q. owner-kept u q m) (before .connected p (owner-before u p n e)));
         counted =
             ap (λ (c : Chain). c .count) same ∙ before .counted
             ∙ ap (λ (g : ℕ → Bool). count g (below (area (b .height) (b .width)))) (sym (fun-ext (λ q. owns-other u q n m)));
@@ -362,10 +354,10 @@ module _ (b : Board) (t f : ℕ) (is : Joining b t f) where
         (owner-either p e)
       where
         in-to : {p q : ℕ} → Walk (neighbours (b .height) (b .width)) (owner b) t p q → Walk (neighbours (b .height) (b .width)) (owner (join b t f)) t p q
-        in-to = walk-recoloured (λ q. owner-kept t q (is .apart))
+        in-to = walk-renamed (λ q. owner-kept t q (is .apart))
 
         in-from : {p q : ℕ} → Walk (neighbours (b .height) (b .width)) (owner b) f p q → Walk (neighbours (b .height) (b .width)) (owner (join b t f)) t p q
-        in-from = walk-recoloured owner-moved
+        in-from = walk-renamed owner-moved
 
     exact-to : ExactChain (join b t f) t
     unfolding join united

@@ -2,16 +2,18 @@
 -- links are crossed are one ring, the points of the one before those of the other.
 use mathlib.Core.Bool.{true, not}
 use mathlib.Core.Path.{_≡_, refl, sym, ap, _∙_}
-use mathlib.Core.List.{List, Memᴰ·cast}
+use mathlib.Core.List.{List}
 use mathlib.Core.Logic.{_≢_, _⊎_, inl, inr, ⊎-elim}
-use Prim.Native.Nat.{ℕ, zero, suc, _+_, _-_, _<_, zero-le, suc-le-suc}
-use native.Mathlib.Nat.{add-zero, zero-add, add-suc, suc-add, le-of-suc-le-suc, not-suc-le-zero}
+use Prim.Native.Nat.{ℕ, zero, suc, _+_, _-_, _<_}
+use native.Mathlib.Nat.{zero-add}
 use native.Mathlib.Decide.{decLt}
 use native.Mathlib.Omega.{arith}
 use lib.Dec.{eqb}
 use lib.ListN.{getD}
 use borrow.Author.Tests.{ne-eqb, eqb-false, not-true}
-use Rattle.rules.specs.Lists.{tabulate, Distinct}
+use Rattle.rules.specs.Lists.{Distinct}
+use Rattle.rules.specs.Laws.Lists.{equal-or-not, below-or-not}
+use Rattle.rules.specs.Laws.Distinct.{tabulate-distinct, distinct-tabulate}
 use Rattle.chains.specs.declared.group.Chain.{Chain}
 use Rattle.chains.specs.Group.{used}
 use Rattle.chains.specs.Walk.{stepped, walked}
@@ -20,50 +22,28 @@ use Rattle.board.specs.declared.goban.Board.{Board}
 use Rattle.board.specs.Board.{chainIn}
 use Rattle.board.specs.True.{ExactChain}
 use Rattle.laying.specs.Links.{Ring, RingOf}
-use Rattle.laying.specs.Laws.Ring.{tabulate-mem, mem-tabulate}
 
 -- ---- No point twice, by number
-
-module _ {A : Type 0} (g : ℕ → A) where
-  moved : (i k : ℕ) → g (suc i + k) ≡ g (i + suc k)
-  moved i k = ap g (suc-add i k ∙ sym (add-suc i k))
-
-  pub distinct-tabulate :
-      (i n : ℕ) → ((j k : ℕ) → j < n → k < n → g (i + j) ≡ g (i + k) → j ≡ k) → Distinct (tabulate g i n)
-  distinct-tabulate i zero apart = tt
-  distinct-tabulate i (suc n) apart = (
-    λ m.
-        let (k, l, e) = tabulate-mem g (suc i) n m in
-        let z : 0 ≡ suc k = apart 0 (suc k) (suc-le-suc zero-le) (suc-le-suc l) (ap g (add-zero i) ∙ e ∙ moved i k) in
-        omega arith,
-    distinct-tabulate (suc i) n
-        (λ j k l m e. let same : suc j ≡ suc k = apart (suc j) (suc k) (suc-le-suc l) (suc-le-suc m) (sym (moved i j) ∙ e ∙ moved i k) in omega arith),
-  )
-
-  -- the first comes no second time
-  first-new : (i n : ℕ) → Distinct (tabulate g i (suc n)) → (k : ℕ) → k < n → g (i + 0) ≢ g (i + suc k)
-  first-new i n (new, d) k m e = new (Memᴰ·cast (sym (ap g (add-zero i)) ∙ e ∙ sym (moved i k)) (mem-tabulate g (suc i) n k m))
-
-  pub tabulate-distinct :
-      (i n : ℕ) → Distinct (tabulate g i n) → (j k : ℕ) → j < n → k < n → g (i + j) ≡ g (i + k) → j ≡ k
-  tabulate-distinct i zero d j k l m e = absurd (not-suc-le-zero l)
-  tabulate-distinct i (suc n) d zero zero l m e = refl
-  tabulate-distinct i (suc n) d zero (suc k) l m e = absurd (first-new i n d k (le-of-suc-le-suc m) e)
-  tabulate-distinct i (suc n) d (suc j) zero l m e = absurd (first-new i n d j (le-of-suc-le-suc l) (sym e))
-  tabulate-distinct i (suc n) (new, d) (suc j) (suc k) l m e =
-      ap suc (tabulate-distinct (suc i) n d j k (le-of-suc-le-suc l) (le-of-suc-le-suc m) (moved i j ∙ e ∙ sym (moved i k)))
 
 module _ (next : List ℕ) (p n : ℕ) where
   pub distinct-walked : ((j k : ℕ) → j < n → k < n → stepped next p j ≡ stepped next p k → j ≡ k) → Distinct (walked next p n)
   unfolding walked
   distinct-walked apart =
-      distinct-tabulate (stepped next p) 0 n
-      (λ j k l m e. apart j k l m (ap (stepped next p) (sym (zero-add j)) ∙ e ∙ ap (stepped next p) (zero-add k)))
+      tabulate-distinct (stepped next p) 0 n
+      (λ j k l m e.
+      let same : j ≡ k = apart j k (omega arith) m (ap (stepped next p) (sym (zero-add j)) ∙ e ∙ ap (stepped next p) (zero-add k)) in
+      omega arith)
+
+  later-new : Distinct (walked next p n) → (j k : ℕ) → j < k → k < n → stepped next p j ≢ stepped next p k
+  unfolding walked
+  later-new d j k l m e =
+      distinct-tabulate (stepped next p) 0 n d j k l m (ap (stepped next p) (zero-add j) ∙ e ∙ ap (stepped next p) (sym (zero-add k)))
 
   pub walked-distinct : Distinct (walked next p n) → (j k : ℕ) → j < n → k < n → stepped next p j ≡ stepped next p k → j ≡ k
-  unfolding walked
   walked-distinct d j k l m e =
-      tabulate-distinct (stepped next p) 0 n d j k l m (ap (stepped next p) (zero-add j) ∙ e ∙ ap (stepped next p) (sym (zero-add k)))
+      ⊎-elim (λ before. absurd (later-new d j k before m e))
+      (λ after. ⊎-elim (λ same. same) (λ apart. absurd (later-new d k j (omega arith) l (sym e))) (equal-or-not j k))
+      (below-or-not j k)
 
 -- ---- A ring of links
 

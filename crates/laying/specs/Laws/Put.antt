@@ -1,10 +1,10 @@
 -- Laws of put: a stone put as a chain of its own on an empty point leaves an exact table. The new chain owns that point alone, every
 -- other chain is as it was but for that liberty, and the colours are those of the move.
 use mathlib.Core.Path.{_≡_, refl, sym, ap, _∙_, subst, fun-ext}
-use mathlib.Core.Bool.{Bool, true, false, cond, not, _&&_, _||_}
+use mathlib.Core.Bool.{Bool, true, false, cond, not, _&&_, _||_, or-assoc}
 use mathlib.Core.List.{List, [], _∷_, _++_, List·Memᴰ, List·Memᴰ·not-nil, Memᴰ·cast}
 use mathlib.Core.Logic.{_≢_, ⊎-elim}
-use Prim.Native.Nat.{ℕ, zero, suc, _+_, _-_, _≤_, _<_}
+use Prim.Native.Nat.{ℕ, _+_, _-_, _≤_, _<_}
 use native.Mathlib.Omega.{arith}
 use lib.Dec.{eqb, ltb}
 use lib.Bits.{bitXor}
@@ -18,7 +18,7 @@ use Rattle.rules.specs.Reach.{Walk, here}
 use Rattle.rules.specs.Hash.{stoneHash, hash}
 use Rattle.rules.specs.Move.{coloured}
 use Rattle.rules.specs.Game.{Player}
-use Rattle.rules.specs.Laws.Lists.{and-left, and-right, and-both, not-both, decided, equal-or-not, any-yes, any-some, mem-below, getD-set, getD-default, getD-tabulate-zero, same-answer}
+use Rattle.rules.specs.Laws.Lists.{and-left, and-right, and-both, not-both, equal-or-not, any-yes, any-some, mem-below, getD-set, getD-default, getD-tabulate-zero, same-answer}
 use Rattle.rules.specs.Laws.Counting.{below-distinct, count-equal}
 use Rattle.rules.specs.Laws.Points.{neighbours-sym, neighbours-on, neighbours-not-self}
 use Rattle.rules.specs.Laws.Reach.{walk-agree}
@@ -31,6 +31,7 @@ use Rattle.chains.specs.Walk.{stepped, walked}
 use Rattle.rules.specs.Laws.Places.{tabulate-ext}
 use Rattle.sets.specs.Laws.Liberties.{setOf-ext, added-setOf, removed-setOf}
 use Rattle.chains.specs.Laws.Group.{new-used}
+use Rattle.chains.specs.Laws.Walk.{stepped-set}
 use Rattle.board.specs.declared.goban.Board.{Board}
 use Rattle.board.specs.Board.{owner, chainIn, colourAt, coloursOf}
 use Rattle.board.specs.True.{libertyOf, ExactChain, Shaped, ExactTable}
@@ -49,10 +50,6 @@ or-never : (a b : Bool) → a ≡ (a || (b && false))
 or-never true b = refl
 or-never false true = refl
 or-never false false = refl
-
-or-assoc : (a b c : Bool) → ((a || b) || c) ≡ (a || (b || c))
-or-assoc true b c = refl
-or-assoc false b c = refl
 
 and-never : (a : Bool) {b : Bool} → b ≡ false → (a && b) ≡ false
 and-never true e = e
@@ -170,14 +167,6 @@ openings-setOf own (q ∷ qs) f =
 colours-at : (b : Board) (q : ℕ) → q < area (b .height) (b .width) → getD (coloursOf b) q 0 ≡ colourAt b q
 unfolding coloursOf
 colours-at b q on = getD-tabulate-zero (colourAt b) (area (b .height) (b .width)) q 0 on
-
--- a link changed where the walk does not come by
-stepped-elsewhere :
-    (next : List ℕ) (p v o k : ℕ) → ((j : ℕ) → j < k → stepped next o j ≢ p) → stepped (set next p v) o k ≡ stepped next o k
-stepped-elsewhere next p v o zero away = refl
-stepped-elsewhere next p v o (suc k) away =
-    ap (λ (q : ℕ). getD (set next p v) q 0) (stepped-elsewhere next p v o k (λ j h. away j (omega arith)))
-    ∙ getD-set-other next p (stepped next o k) v 0 (away k (omega arith))
 
 -- ---- The board with the stone
 
@@ -432,7 +421,7 @@ module _ {b : Board} {p c s : ℕ} (is : Putting b p c s) where
     unfolding put
     steps-kept k l =
         ap (λ (o : ℕ). stepped (put b p c s .next) o k) (origin-old t h n)
-        ∙ stepped-elsewhere (b .next) p p (chainIn b t .origin) k
+        ∙ stepped-set (b .next) p p (chainIn b t .origin) k
         (λ j m. stone-apart (stepped (b .next) (chainIn b t .origin) j) (x .linked j (omega arith)))
 
     walk-same :

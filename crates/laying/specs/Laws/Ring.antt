@@ -2,52 +2,27 @@
 -- walk that gives each point of it to another slot moves the whole chain and nothing else.
 use mathlib.Core.Bool.{Bool, true, cond}
 use mathlib.Core.Path.{_≡_, refl, sym, ap, _∙_}
-use mathlib.Core.List.{List, [], _∷_, _++_, List·Memᴰ, List·Memᴰ·head as head, List·Memᴰ·tail as tail, List·Memᴰ·not-nil, List·Memᴰ·cases-cons, Memᴰ·cast}
+use mathlib.Core.List.{List, [], _∷_, _++_, List·Memᴰ, List·Memᴰ·head as head, List·Memᴰ·tail as tail, List·Memᴰ·not-nil, List·Memᴰ·cases-cons}
 use mathlib.Core.Logic.{⊎-elim}
-use Prim.Native.Nat.{ℕ, zero, suc, _+_, _≤_, _<_, zero-le, suc-le-suc}
-use native.Mathlib.Nat.{add-zero, zero-add, add-suc, suc-add, le-of-suc-le-suc, not-suc-le-zero}
+use Prim.Native.Nat.{ℕ, suc, _≤_, _<_}
 use native.Mathlib.Omega.{arith}
 use lib.Dec.{eqb}
 use lib.ListN.{length, getD, set, length-set}
 use lib.Seq.{getD-set-same, getD-set-other}
 use borrow.Author.Tests.{eq-eqb, ne-eqb}
 use Rattle.rules.specs.Sizes.{maxArea, slots}
-use Rattle.rules.specs.Lists.{tabulate, pick, count, below, has}
+use Rattle.rules.specs.Lists.{pick, count, below, has}
 use Rattle.rules.specs.Points.{area}
 use Rattle.rules.specs.Laws.Lists.{decided, equal-or-not, mem-below, mem-pick, has-mem, has-not}
 use Rattle.rules.specs.Laws.Counting.{distinct-fewer, length-pick}
 use Rattle.chains.specs.Group.{used}
-use Rattle.chains.specs.Walk.{stepped, walked}
-use Rattle.chains.specs.Laws.Walk.{length-walked}
+use Rattle.chains.specs.Walk.{walked}
+use Rattle.chains.specs.Laws.Walk.{length-walked, walked-mem}
 use Rattle.board.specs.declared.goban.Board.{Board}
 use Rattle.board.specs.Board.{owner, chainIn}
 use Rattle.board.specs.True.{ExactTable, ExactChain}
 use Rattle.board.specs.Laws.Board.{area-fits}
 use Rattle.laying.specs.Steps.{owning}
-
--- ---- The points of a walk, by number
-
-module _ {A : Type 0} (g : ℕ → A) where
-  pub tabulate-mem : {x : A} (i n : ℕ) → List·Memᴰ x (tabulate g i n) → (k : ℕ) × (k < n) × (x ≡ g (i + k))
-  tabulate-mem i zero m = absurd (List·Memᴰ·not-nil m)
-  tabulate-mem i (suc n) m =
-      ⊎-elim (λ e. (0, suc-le-suc zero-le, e ∙ ap g (sym (add-zero i))))
-      (λ t. let (k, l, e) = tabulate-mem (suc i) n t in (suc k, suc-le-suc l, e ∙ ap g (suc-add i k ∙ sym (add-suc i k))))
-      (List·Memᴰ·cases-cons m)
-
-  pub mem-tabulate : (i n k : ℕ) → k < n → List·Memᴰ (g (i + k)) (tabulate g i n)
-  mem-tabulate i zero k h = absurd (not-suc-le-zero h)
-  mem-tabulate i (suc n) zero h = head (ap g (add-zero i))
-  mem-tabulate i (suc n) (suc k) h =
-      tail (Memᴰ·cast (ap g (add-suc i k ∙ sym (suc-add i k))) (mem-tabulate (suc i) n k (le-of-suc-le-suc h)))
-
-pub walked-mem : (next : List ℕ) (p n : ℕ) {q : ℕ} → List·Memᴰ q (walked next p n) → (k : ℕ) × (k < n) × (q ≡ stepped next p k)
-unfolding walked
-walked-mem next p n m = let (k, l, e) = tabulate-mem (stepped next p) 0 n m in (k, l, e ∙ ap (stepped next p) (zero-add k))
-
-pub mem-walked : (next : List ℕ) (p n k : ℕ) → k < n → List·Memᴰ (stepped next p k) (walked next p n)
-unfolding walked
-mem-walked next p n k h = Memᴰ·cast (ap (stepped next p) (sym (zero-add k))) (mem-tabulate (stepped next p) 0 n k h)
 
 -- ---- Points given to a slot
 
