@@ -13,12 +13,11 @@ use Rattle.rules.specs.Lists.{any, all, pick, present}
 use Rattle.rules.specs.Colours.{empty, other, at}
 use Rattle.rules.specs.Points.{Shift, area, towards, neighbours, corners}
 use Rattle.rules.specs.Tests.{friendly, friendlyCorners, twoOrThree, emptyCorners, eyeAmong, eye}
-use Rattle.rules.specs.Laws.Lists.{present-mem}
+use Rattle.rules.specs.Laws.Lists.{present-mem, any-same, all-same, pick-same}
 use Rattle.rules.specs.Laws.Counting.{count-same}
 use Rattle.rules.specs.Laws.Points.{towards-step, neighbours-on}
 use Rattle.legality.specs.declared.eye.Said.the-variants.{Eye, NoEye, Next}
 use Rattle.legality.specs.Eye.{said, scanned, decides}
-use Rattle.legality.specs.Laws.Lists.{any-same, all-same, pick-same}
 
 -- ---- Corner by corner
 

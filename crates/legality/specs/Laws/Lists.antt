@@ -1,17 +1,17 @@
 -- Laws of lists: asking and counting along a map or a table, what asking says of counts, and four places filled one by one.
 use mathlib.Core.Path.{_≡_, refl, sym, ap, ap₂, _∙_, subst}
 use mathlib.Core.Bool.{Bool, true, false, cond, not, _&&_, _||_}
-use mathlib.Core.List.{List, [], _∷_, _++_, map, map-append, append-assoc, List·Memᴰ, List·Memᴰ·head, List·Memᴰ·tail}
+use mathlib.Core.List.{List, [], _∷_, _++_, map, map-append, append-assoc}
 use Prim.Native.Nat.{ℕ, zero, suc, _+_, _-_, _<_}
-use native.Mathlib.Nat.{zero-add, add-zero, not-suc-le-zero, le-of-suc-le-suc}
+use native.Mathlib.Nat.{zero-add}
 use native.Mathlib.Numerals.{add-one}
 use native.Mathlib.Omega.{arith}
 use lib.Dec.{eqb, ltb}
 use lib.ListN.{length, getD, take, set, replicate, length-append, length-map, List·getD-append, List·getD-map}
 use lib.Seq.{take-suc, set-append-seam}
 use borrow.Author.Tests.{eqb-true, eq-eqb, ne-eqb, lt-ltb}
-use Rattle.rules.specs.Lists.{tabulate, any, all, count, pick}
-use Rattle.rules.specs.Laws.Lists.{getD-default, any-yes, same-answer}
+use Rattle.rules.specs.Lists.{tabulate, any, all, count}
+use Rattle.rules.specs.Laws.Lists.{getD-default, any-yes, same-answer, mem-tabulate}
 use Rattle.rules.specs.Laws.Counting.{count-most}
 use Rattle.rules.specs.Laws.Places.{tabulate-shift, count-append}
 use Rattle.legality.specs.Near.{inFour}
@@ -22,38 +22,11 @@ pub not-or : (a b : Bool) → not (a || b) ≡ not a && not b
 not-or true b = refl
 not-or false b = refl
 
-or-regroup : (a b c d : Bool) → (a || b) || (c || d) ≡ (a || c) || (b || d)
-or-regroup true b c d = refl
-or-regroup false b true d = swallow b
-  where
-    swallow : (b : Bool) → b || (true || d) ≡ true
-    swallow true = refl
-    swallow false = refl
-or-regroup false b false d = refl
-
 eqb-more : (a b : ℕ) → eqb a b ≡ eqb (1 + a) (suc b)
 eqb-more a b =
     same-answer (λ t. let e = eqb-true a b t in eq-eqb (1 + a) (suc b) (omega arith)) (λ t. let e = eqb-true (1 + a) (suc b) t in eq-eqb a b (omega arith))
 
 module _ {A : Type 0} where
-  pub any-or : (f g : A → Bool) (xs : List A) → any (λ x. f x || g x) xs ≡ any f xs || any g xs
-  any-or f g [] = refl
-  any-or f g (x ∷ xs) = ap (λ (r : Bool). (f x || g x) || r) (any-or f g xs) ∙ or-regroup (f x) (g x) (any f xs) (any g xs)
-
-  -- tests that agree on the list's elements
-  pub any-same : (f g : A → Bool) (xs : List A) → ((x : A) → List·Memᴰ x xs → f x ≡ g x) → any f xs ≡ any g xs
-  any-same f g [] h = refl
-  any-same f g (x ∷ xs) h = ap₂ _||_ (h x (List·Memᴰ·head refl)) (any-same f g xs (λ y m. h y (List·Memᴰ·tail m)))
-
-  pub all-same : (f g : A → Bool) (xs : List A) → ((x : A) → List·Memᴰ x xs → f x ≡ g x) → all f xs ≡ all g xs
-  all-same f g [] h = refl
-  all-same f g (x ∷ xs) h = ap₂ _&&_ (h x (List·Memᴰ·head refl)) (all-same f g xs (λ y m. h y (List·Memᴰ·tail m)))
-
-  pub pick-same : (f g : A → Bool) (xs : List A) → ((x : A) → List·Memᴰ x xs → f x ≡ g x) → pick f xs ≡ pick g xs
-  pick-same f g [] h = refl
-  pick-same f g (x ∷ xs) h =
-      ap₂ (λ (t : Bool) (r : List A). cond t (x ∷ r) r) (h x (List·Memᴰ·head refl)) (pick-same f g xs (λ y m. h y (List·Memᴰ·tail m)))
-
   -- ---- Asking by counting
 
   pub any-count : (f : A → Bool) (xs : List A) → any f xs ≡ ltb 0 (count f xs)
@@ -90,12 +63,6 @@ module _ {A : Type 0} {B : Type 0} where
 -- ---- Tables
 
 module _ {A : Type 0} where
-  mem-tabulate : (g : ℕ → A) (i n k : ℕ) → k < n → List·Memᴰ (g (i + k)) (tabulate g i n)
-  mem-tabulate g i zero k h = absurd (not-suc-le-zero h)
-  mem-tabulate g i (suc n) zero h = List·Memᴰ·head (ap g (add-zero i))
-  mem-tabulate g i (suc n) (suc k) h =
-      List·Memᴰ·tail (subst (λ (j : ℕ). List·Memᴰ (g j) (tabulate g (suc i) n)) (omega arith) (mem-tabulate g (suc i) n k (le-of-suc-le-suc h)))
-
   pub any-tabulate-some : (f : A → Bool) (g : ℕ → A) (n k : ℕ) → k < n → f (g k) ≡ true → any f (tabulate g 0 n) ≡ true
   any-tabulate-some f g n k h e =
       any-yes f (mem-tabulate g 0 n k h) (subst (λ (j : ℕ). f (g j) ≡ true) (omega arith) e)

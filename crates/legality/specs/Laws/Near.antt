@@ -1,7 +1,7 @@
 -- Laws of Near: what the chain table of a true board tells of the points beside is what the rules say, and so the tests on what
 -- stands near are the rules' tests of suicide, ko and capture.
 use mathlib.Core.Path.{_≡_, refl, sym, ap, _∙_}
-use mathlib.Core.Bool.{Bool, true, false, cond, not, _&&_, _||_}
+use mathlib.Core.Bool.{Bool, true, false, cond, not, _&&_, _||_, or-false}
 use mathlib.Core.List.{List, map}
 use mathlib.Core.Logic.{_≢_, ⊎-elim}
 use mathlib.Core.Option.{Option}
@@ -16,7 +16,7 @@ use Rattle.rules.specs.Colours.{empty, other, at}
 use Rattle.rules.specs.Points.{neighbours}
 use Rattle.rules.specs.Chain.{size, liberties}
 use Rattle.rules.specs.Tests.{inAtari, suicide, isKoPoint, ko, captures}
-use Rattle.rules.specs.Laws.Lists.{decided, equal-or-not}
+use Rattle.rules.specs.Laws.Lists.{decided, equal-or-not, any-or, any-same}
 use Rattle.rules.specs.Laws.Counting.{count-none}
 use Rattle.rules.specs.Laws.Points.{neighbours-few}
 use Rattle.chains.specs.Group.{freeChain}
@@ -31,7 +31,7 @@ use Rattle.board.specs.Laws.Views.{empty-owner, chain-size, chain-liberties}
 use Rattle.legality.specs.declared.near.Near.{Near}
 use Rattle.legality.specs.declared.near.Beside.{Beside}
 use Rattle.legality.specs.Near.{ofStone, nearOf, chainSeen, nothing, filled, place, besides, caught, catchesMore, saves}
-use Rattle.legality.specs.Laws.Lists.{not-or, any-or, any-same, any-map, any-tabulate-some, any-tabulate-none, tabulate-places, getD-inFour}
+use Rattle.legality.specs.Laws.Lists.{not-or, any-map, any-tabulate-some, any-tabulate-none, tabulate-places, getD-inFour}
 
 -- ---- What a true board's table says
 
@@ -91,10 +91,6 @@ other-stone own = go (eqb own 1)
     go true = refl
     go false = refl
 
-or-no : (a : Bool) → a || false ≡ a
-or-no true = refl
-or-no false = refl
-
 module _ (own : ℕ) (b : Beside) where
   pub saves-empty : b .colour ≡ empty → saves own b ≡ true
   unfolding saves
@@ -104,7 +100,7 @@ module _ (own : ℕ) (b : Beside) where
   unfolding saves caught
   saves-own n e =
       let enemy : eqb (b .colour) (other own) ≡ false = ap (λ (c : ℕ). eqb c (other own)) e ∙ other-apart own in
-      simp (ne-eqb (b .colour) empty n, eq-eqb (b .colour) own e, enemy) (or-no (not (eqb (b .liberties) 1)))
+      simp (ne-eqb (b .colour) empty n, eq-eqb (b .colour) own e, enemy) (or-false (not (eqb (b .liberties) 1)))
 
   pub saves-other : b .colour ≢ empty → b .colour ≢ own → saves own b ≡ caught (other own) b
   unfolding saves
@@ -193,8 +189,8 @@ module _ (h w : ℕ) (cols : List ℕ) where
         let prey : ℕ → Bool = λ q. eqb (at cols q) (other own) && inAtari h w cols q in
         ap not
         (any-near (saves own) (λ q. vacant q || safe q || prey q) (saves-seen own) n p is
-        ∙ any-or (λ q. vacant q || safe q) prey ns
-        ∙ ap (λ (t : Bool). t || any prey ns) (any-or vacant safe ns))
+        ∙ any-or (λ q. vacant q || safe q) prey _ ns (λ q. refl)
+        ∙ ap (λ (t : Bool). t || any prey ns) (any-or vacant safe _ ns (λ q. refl)))
         ∙ not-or (any vacant ns || any safe ns) (any prey ns)
         ∙ ap (λ (t : Bool). t && not (any prey ns)) (not-or (any vacant ns) (any safe ns))
 

@@ -9,7 +9,8 @@ use native.Mathlib.Omega.{arith}
 use lib.ListN.{length, getD, drop, set, length-append, drop-of-length-le}
 use lib.Seq.{drop-cons, set-append-seam, append-snoc}
 use Rattle.rules.specs.Lists.{tabulate, pick, below}
-use Rattle.rules.specs.Laws.Places.{tabulate-suc}
+use Rattle.rules.specs.Laws.Lists.{pick-append}
+use Rattle.rules.specs.Laws.Places.{tabulate-suc, below-next}
 use Rattle.listing.specs.Front.{over, Front}
 
 -- ---- The buffer
@@ -49,23 +50,9 @@ front-whole {xs} {d} {after} {n} f h =
 
 -- ---- The lists
 
-pick-append : (f : ℕ → Bool) (xs ys : List ℕ) → pick f (xs ++ ys) ≡ pick f xs ++ pick f ys
-pick-append f [] ys = refl
-pick-append f (x ∷ xs) ys = first (f x) (pick-append f xs ys)
-  where
-    first :
-        (t : Bool) → pick f (xs ++ ys) ≡ pick f xs ++ pick f ys →
-        cond t (x ∷ pick f (xs ++ ys)) (pick f (xs ++ ys)) ≡ cond t (x ∷ pick f xs) (pick f xs) ++ pick f ys
-    first true ih = ap (λ (l : List ℕ). x ∷ l) ih
-    first false ih = ih
-
-below-suc : (n : ℕ) → below (n + 1) ≡ below n ++ (n ∷ [])
-unfolding below
-below-suc n = ap below (add-one n) ∙ tabulate-suc (λ i. i) 0 n ∙ ap (λ (k : ℕ). tabulate (λ i. i) 0 n ++ (k ∷ [])) (zero-add n)
-
 module _ (f : ℕ → Bool) (n : ℕ) where
   next : pick f (below (n + 1)) ≡ pick f (below n) ++ cond (f n) (n ∷ []) []
-  next = ap (pick f) (below-suc n) ∙ pick-append f (below n) (n ∷ [])
+  next = ap (pick f) (below-next n) ∙ pick-append f (below n) (n ∷ [])
 
   -- the next number passes, or not
   pub pick-more : f n ≡ true → pick f (below (n + 1)) ≡ pick f (below n) ++ (n ∷ [])

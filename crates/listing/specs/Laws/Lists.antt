@@ -1,11 +1,11 @@
--- Laws of tests over a list: by its places, up to some number of them; and two tests that agree.
+-- Laws of tests over a list: by its places, up to some number of them.
 use mathlib.Core.Path.{_≡_, refl, ap₂}
-use mathlib.Core.Bool.{Bool, true, false, cond, _||_}
-use mathlib.Core.List.{List, [], _∷_, List·Memᴰ, List·Memᴰ·head as head, List·Memᴰ·tail as tail}
+use mathlib.Core.Bool.{Bool, true, false, _||_}
+use mathlib.Core.List.{List, [], _∷_}
 use Prim.Native.Nat.{ℕ, zero, suc, _<_, zero-le, suc-le-suc}
 use native.Mathlib.Nat.{not-suc-le-zero, le-of-suc-le-suc}
 use lib.ListN.{length, getD, take}
-use Rattle.rules.specs.Lists.{any, pick}
+use Rattle.rules.specs.Lists.{any}
 use Rattle.rules.specs.Laws.Lists.{or-left, or-right}
 
 module _ (f : ℕ → Bool) where
@@ -21,12 +21,3 @@ module _ (f : ℕ → Bool) where
   any-missed (x ∷ l) zero h = refl
   any-missed (x ∷ l) (suc n) h =
       ap₂ _||_ (h 0 (suc-le-suc zero-le)) (any-missed l n (λ k b. h (suc k) (suc-le-suc b)))
-
-pub pick-same : (f g : ℕ → Bool) (xs : List ℕ) → ((x : ℕ) → List·Memᴰ x xs → f x ≡ g x) → pick f xs ≡ pick g xs
-pick-same f g [] h = refl
-pick-same f g (x ∷ xs) h =
-    ap₂ (λ (t : Bool) (l : List ℕ). cond t (x ∷ l) l) (h x (head refl)) (pick-same f g xs (λ y m. h y (tail m)))
-
-pub any-same : (f g : ℕ → Bool) (xs : List ℕ) → ((x : ℕ) → List·Memᴰ x xs → f x ≡ g x) → any f xs ≡ any g xs
-any-same f g [] h = refl
-any-same f g (x ∷ xs) h = ap₂ _||_ (h x (head refl)) (any-same f g xs (λ y m. h y (tail m)))

@@ -1,14 +1,12 @@
--- Laws of Seen: the points around are points; and on a true board the tests on its view are the rules' tests on its colours.
-use mathlib.Core.Path.{_≡_, refl, sym, ap, ap₂, _∙_, subst}
+-- Laws of Seen: on a true board the tests on its view are the rules' tests on its colours.
+use mathlib.Core.Path.{_≡_, refl, sym, ap, ap₂, _∙_}
 use mathlib.Core.Bool.{Bool, true, false, not, _&&_}
-use mathlib.Core.List.{List, [], _∷_, List·Memᴰ, List·Memᴰ·head as head, List·Memᴰ·tail as tail}
+use mathlib.Core.List.{List}
 use mathlib.Core.Logic.{_≢_}
-use Prim.Native.Nat.{ℕ, zero, suc, _<_}
-use native.Mathlib.Nat.{not-suc-le-zero, le-of-suc-le-suc}
+use Prim.Native.Nat.{ℕ, _<_}
 use native.Mathlib.Omega.{arith}
 use lib.Dec.{eqb}
-use lib.ListN.{length, getD}
-use lib.Seq.{getD-take}
+use lib.ListN.{getD}
 use borrow.Author.Tests.{eqb-true, eqb-false, not-true}
 use Rattle.rules.specs.Sizes.{maxArea, slots}
 use Rattle.rules.specs.Lists.{any, pick, below, has}
@@ -16,10 +14,8 @@ use Rattle.rules.specs.Colours.{empty, at}
 use Rattle.rules.specs.Points.{area, index, neighbours}
 use Rattle.rules.specs.Flood.{chain, marked}
 use Rattle.rules.specs.Chain.{liberty, leads}
-use Rattle.rules.specs.Laws.Lists.{below-mem, length-tabulate}
+use Rattle.rules.specs.Laws.Lists.{below-mem, length-tabulate, any-same, pick-same}
 use Rattle.rules.specs.Laws.Points.{index-on, neighbours-on}
-use Rattle.points.specs.declared.coord.Around.{Around}
-use Rattle.points.specs.Around.{Holds}
 use Rattle.board.specs.declared.goban.Board.{Board}
 use Rattle.board.specs.Board.{owner, colourAt, coloursOf}
 use Rattle.board.specs.True.{TrueBoard}
@@ -32,22 +28,7 @@ use Rattle.listing.specs.declared.shows.Question.the-variants as questio
 use Rattle.listing.specs.View.{leadAt, viewOf}
 use Rattle.listing.specs.Seen.{keyOf, meets, near, passed, Seen, OnBoard}
 use Rattle.listing.specs.Lists.{stone, shownAt, shown, listed}
-use Rattle.listing.specs.Laws.Lists.{pick-same, any-same}
 use Rattle.listing.specs.Laws.View.{view-colour, view-lead, marked-lead, leads-lead}
-
-getD-mem : (l : List ℕ) (i d : ℕ) → i < length l → List·Memᴰ (getD l i d) l
-getD-mem [] i d h = absurd (not-suc-le-zero h)
-getD-mem (x ∷ l) zero d h = head refl
-getD-mem (x ∷ l) (suc i) d h = tail (getD-mem l i d (le-of-suc-le-suc h))
-
--- what is held around a point is on the board
-pub around-on :
-    (h w p : ℕ) (a : Around) → Holds a (neighbours h w p) → (i : ℕ) → i < a .count → getD (a .points) i 0 < area h w
-around-on h w p a holds i l =
-    let e : getD (neighbours h w p) i 0 ≡ getD (a .points) i 0 =
-    ap (λ (ps : List ℕ). getD ps i 0) (sym (holds .listed)) ∙ getD-take (a .count) (a .points) i 0 l in
-    subst (λ (q : ℕ). q < area h w) e
-    (neighbours-on h w p (getD (neighbours h w p) i 0) (getD-mem (neighbours h w p) i 0 (omega (arith, holds .counted))))
 
 -- ---- On a true board
 

@@ -1,6 +1,6 @@
--- Laws of answers: a test that holds refuses, and one that does not lets the next one speak; and what an outcome is made of.
-use mathlib.Core.Path.{_≡_, refl, sym, ap, _∙_, subst}
-use mathlib.Core.Bool.{Bool, true, false, cond, not}
+-- What an outcome is made of, and the answers of 01's tests in their order.
+use mathlib.Core.Path.{_≡_, refl, ap, _∙_, subst}
+use mathlib.Core.Bool.{true, false, not}
 use mathlib.Core.List.{List}
 use mathlib.Core.Logic.{_≢_}
 use Prim.Native.Nat.{ℕ}
@@ -11,46 +11,12 @@ use Rattle.rules.specs.Lists.{any}
 use Rattle.rules.specs.Colours.{white}
 use Rattle.rules.specs.Points.{area}
 use Rattle.rules.specs.Calls.{Spot, choked, layBlack, spotsAnswer, layAnswer, sizeAnswer, boardAnswer}
-use Rattle.rules.specs.Answers.{Answer, Accepted, NoLiberty, BadLength, BadColour, number, accepts, _then_, refuse}
+use Rattle.rules.specs.Answers.{Answer, NoLiberty, BadLength, BadColour, number, accepts, _then_, refuse}
 use Rattle.rules.specs.Laws.Lists.{not-both}
+use Rattle.rules.specs.Laws.Answers.{then-refused, then-accepted, test-refuses, test-passes}
 use Rattle.board.specs.declared.goban.Board.{Board}
 use Rattle.placing.specs.declared.place.Placed.{Placed}
 use Rattle.placing.specs.Placing.{Stands, Outcome}
-
--- ---- Two answers in a row, and one test
-
-pub then-refused : (a b : Answer) → accepts a ≡ false → (a then b) ≡ a
-unfolding _then_
-then-refused a b e = ap (λ (t : Bool). cond t b a) e
-
-pub then-accepted : (a b : Answer) → accepts a ≡ true → (a then b) ≡ b
-unfolding _then_
-then-accepted a b e = ap (λ (t : Bool). cond t b a) e
-
-pub refuses : (a : Answer) {t : Bool} → t ≡ true → refuse a t ≡ a
-unfolding refuse
-refuses a e = ap (λ (t : Bool). cond t a Accepted) e
-
-pub passes : (a : Answer) {t : Bool} → t ≡ false → refuse a t ≡ Accepted
-unfolding refuse
-passes a e = ap (λ (t : Bool). cond t a Accepted) e
-
-pub test-refuses : (a b : Answer) {t : Bool} → accepts a ≡ false → t ≡ true → (refuse a t then b) ≡ a
-test-refuses a b {t} n e = then-refused (refuse a t) b (ap accepts (refuses a e) ∙ n) ∙ refuses a e
-
-pub test-passes : (a b : Answer) {t : Bool} → t ≡ false → (refuse a t then b) ≡ b
-unfolding accepts number
-test-passes a b {t} e = then-accepted (refuse a t) b (ap accepts (passes a e))
-
--- ---- By the number
-
-pub zero-accepts : (a : Answer) (n : ℕ) → n ≡ number a → n ≡ 0 → accepts a ≡ true
-unfolding accepts
-zero-accepts a n e z = eq-eqb (number a) 0 (sym e ∙ z)
-
-pub other-refuses : (a : Answer) (n : ℕ) → n ≡ number a → n ≢ 0 → accepts a ≡ false
-unfolding accepts
-other-refuses a n e k = ne-eqb (number a) 0 (λ z. k (e ∙ z))
 
 -- ---- Outcomes
 

@@ -1,33 +1,21 @@
 -- A new board of a size that 01 allows is true, and every point of it is empty.
-use mathlib.Core.Path.{_≡_, refl, sym, ap, ap₂, _∙_, subst}
+use mathlib.Core.Path.{_≡_, refl, sym, ap, _∙_, subst}
 use mathlib.Core.Bool.{true, false, not, _&&_}
 use mathlib.Core.List.{List}
 use mathlib.Core.Logic.{⊎-elim}
-use Prim.Native.Nat.{ℕ, zero, suc}
+use Prim.Native.Nat.{ℕ}
 use native.Mathlib.Omega.{arith}
-use lib.Bits.{bitXor}
-use lib.Dec.{ltb, leb}
-use lib.ListN.{replicate, length-replicate}
-use lib.Seq.{ext-getD}
-use borrow.Author.Tests.{ltb-true, leb-true}
-use Rattle.rules.specs.Sizes.{maxSide, maxArea, slots}
-use Rattle.rules.specs.Points.{area}
-use Rattle.rules.specs.Colours.{empty, at}
-use Rattle.rules.specs.Hash.{hashFrom, hash}
 use Rattle.rules.specs.Answers.{Accepted, BadSize, number, accepts}
 use Rattle.rules.specs.Calls.{sideOk, sizeAnswer, boardAnswer, boardFrom}
 use Rattle.rules.specs.Game.{TrueSize, emptyBoard}
-use Rattle.rules.specs.Laws.Lists.{and-left, and-right, decided, not-both, getD-tabulate-zero}
+use Rattle.rules.specs.Laws.Lists.{decided, not-both}
 use Rattle.rules.specs.Laws.Calls.{size-true}
-use Rattle.chains.specs.Group.{freeChain, used}
-use Rattle.chains.specs.Laws.Group.{table-unused}
-use Rattle.board.specs.declared.goban.Board.{Board}
-use Rattle.board.specs.Board.{owner, chainIn, colourAt, coloursOf, newBoard}
-use Rattle.board.specs.True.{TrueBoard}
+use Rattle.board.specs.Board.{newBoard}
 use Rattle.board.specs.Laws.NewBoard.{new-colours, new-true}
 use Rattle.placing.specs.Placing.{Stands, NewBoard, FromColours}
 use Rattle.placing.specs.declared.place.Placed.{Placed}
-use Rattle.placing.specs.Laws.Answers.{refuses, passes, outcome-refused, outcome-accepted}
+use Rattle.rules.specs.Laws.Answers.{refuses, passes}
+use Rattle.placing.specs.Laws.Answers.{outcome-refused, outcome-accepted}
 
 module _ (h w : ℕ) where
   pub new-stands : TrueSize h w → Stands h w (emptyBoard h w) (newBoard h w)

@@ -25,7 +25,8 @@ use Rattle.placing.specs.declared.handicap.Marked.{Marked}
 use Rattle.placing.specs.declared.place.Placed.{Placed}
 use Rattle.placing.specs.Placing.{Outcome, Bare, Placing, PlacedOn, spotOf, spotsOf, MarkedOut, Handicapped}
 use Rattle.placing.specs.Laws.Colours.{coloured-length, coloured-known, empty-length, empty-at}
-use Rattle.placing.specs.Laws.Answers.{test-refuses, test-passes, zero-accepts, other-refuses, outcome-refused, outcome-as, lay-spots, lay-choked}
+use Rattle.rules.specs.Laws.Answers.{test-refuses, test-passes, zero-accepts, other-refuses}
+use Rattle.placing.specs.Laws.Answers.{outcome-refused, outcome-as, lay-spots, lay-choked}
 
 take-replicate : {A : Type 0} (n m : ℕ) (a : A) → n ≤ m → take n (replicate m a) ≡ replicate n a
 take-replicate zero m a l = refl

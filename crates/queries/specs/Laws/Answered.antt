@@ -5,10 +5,11 @@ use mathlib.Core.Logic.{_≢_, ⊎-elim}
 use Prim.Native.Nat.{ℕ, _<_}
 use native.Mathlib.Omega.{arith}
 use lib.Dec.{ltb, leb}
-use borrow.Author.Tests.{ltb-true, ltb-false, le-leb, lt-leb, leb-false}
+use borrow.Author.Tests.{leb-false}
 use Rattle.rules.specs.Points.{area, index}
 use Rattle.rules.specs.Answers.{number, Accepted, Damaged, OffBoard}
 use Rattle.rules.specs.Laws.Lists.{decided, not-both, or-none-left, or-none-right}
+use Rattle.rules.specs.Laws.Calls.{off-not-on}
 use Rattle.rules.specs.Laws.Points.{index-on}
 use Rattle.board.specs.declared.goban.Board.{Board}
 use Rattle.board.specs.True.{TrueBoard}
@@ -85,14 +86,7 @@ answered-unique {b} {off} a a′ =
 module _ (b : Board) (r c : ℕ) where
   offBoard-valid : offBoard b r c ≡ not (ltb r (b .height) && ltb c (b .width))
   unfolding offBoard
-  offBoard-valid =
-      ⊎-elim
-      (λ t.
-      let tall = lt-leb (b .height) r (ltb-true r (b .height) t) in
-      ⊎-elim (λ u. let wide = lt-leb (b .width) c (ltb-true c (b .width) u) in rw (t, u, tall, wide))
-      (λ u. let wide = le-leb (b .width) c (ltb-false c (b .width) u) in rw (t, u, tall, wide)) (decided (ltb c (b .width))))
-      (λ f. let tall = le-leb (b .height) r (ltb-false r (b .height) f) in rw (f, tall))
-      (decided (ltb r (b .height)))
+  offBoard-valid = off-not-on (b .height) (b .width) r c
 
   -- what the test of a coordinate says of it
   pub valid-says : {valid t : Bool} → valid ≡ ltb r (b .height) && ltb c (b .width) → not valid ≡ t → offBoard b r c ≡ t

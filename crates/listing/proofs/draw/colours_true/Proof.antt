@@ -14,7 +14,8 @@ use Rattle.listing.specs.Lists.{lengthAnswer}
 use Rattle.listing.specs.Front.{Front}
 use Rattle.listing.specs.Laws.View.{view-colours}
 use Rattle.listing.specs.Laws.Seen.{view-seen}
-use Rattle.listing.specs.Laws.Answers.{accepts-zero, length-enough, left-refused, left-filled}
+use Rattle.rules.specs.Laws.Answers.{accepts-zero}
+use Rattle.listing.specs.Laws.Answers.{length-enough, left-refused, left-filled}
 use borrow.Author.Needs.{needs}
 use Rattle.listing.proofs.draw.colours_true.Statement.{statement}
 use Rattle.listing.proofs.draw.colours_true.Tie as tie

@@ -12,7 +12,8 @@ use Rattle.listing.specs.Seen.{passed, Seen, OnBoard}
 use Rattle.listing.specs.Lists.{listAnswer, listed}
 use Rattle.listing.specs.Front.{Front}
 use Rattle.listing.specs.Laws.Seen.{passed-listed, view-seen}
-use Rattle.listing.specs.Laws.Answers.{accepts-zero, accepted-list, left-refused, left-filled}
+use Rattle.rules.specs.Laws.Answers.{accepts-zero}
+use Rattle.listing.specs.Laws.Answers.{accepted-list, left-refused, left-filled}
 use borrow.Author.Needs.{needs}
 use Rattle.listing.proofs.list.list_true.Statement.{statement}
 use Rattle.listing.proofs.list.list_true.Tie as tie

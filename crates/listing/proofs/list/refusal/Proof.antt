@@ -6,7 +6,8 @@ use native.Mathlib.Omega.{arith}
 use borrow.Author.Tests.{lt-ltb, le-ltb}
 use Rattle.rules.specs.Answers.{OffBoard, BadColour, number}
 use Rattle.listing.specs.Lists.{lengthAnswer}
-use Rattle.listing.specs.Laws.Answers.{then-refused, then-passed, refuse-yes, refuse-no, refused-then, passed-then, off-not-on}
+use Rattle.rules.specs.Laws.Answers.{accepts-zero, refuses-other, then-refused, then-accepted, refuses, passes, refused-then, passed-then}
+use Rattle.rules.specs.Laws.Calls.{off-not-on}
 use borrow.Author.Needs.{needs}
 use Rattle.listing.proofs.list.refusal.Statement.{statement}
 use Rattle.listing.proofs.list.refusal.Tie as tie
@@ -26,13 +27,16 @@ length-refusal-requires-2 c κs = search needs
 returns : tie.Need-returns
 returns c =
     rw (c .before .before .before .question .given .1)
-    (c .before .length-refusal2 .ensures ∙ sym (then-refused _ _ (λ e. c .if1 .taken (c .before .length-refusal2 .ensures ∙ e))))
+    (c .before .length-refusal2 .ensures ∙ sym (ap number (then-refused _ _ (refuses-other _ (λ e. c .if1 .taken (c .before .length-refusal2 .ensures ∙ e))))))
 
 returns-2 : tie.Need-returns-2
 unfolding number
 returns-2 c =
     rw (c .before .before .before .before .question .given .1)
-    (sym (then-passed _ _ (sym (c .before .before .length-refusal2 .ensures) ∙ c .before .if1 .left) ∙ refuse-yes BadColour (lt-ltb _ _ (c .if2 .taken))))
+    (sym
+    (ap number
+    (then-accepted _ _ (accepts-zero _ (sym (c .before .before .length-refusal2 .ensures) ∙ c .before .if1 .left))
+    ∙ refuses BadColour (lt-ltb _ _ (c .if2 .taken)))))
 
 enum-known-question-2 : tie.Need-enum-known-question-2
 enum-known-question-2 c = search needs
@@ -57,9 +61,13 @@ returns-4 : tie.Need-returns-4
 returns-4 c = rw (c .before .enum-told .given .1) (c .length-refusal .ensures)
 
 returns-5 : tie.Need-returns-5
+unfolding number
 returns-5 c =
     rw (c .before .before .before .before .question .given .1)
-    (sym (then-passed _ _ (sym (c .before .before .length-refusal2 .ensures) ∙ c .before .if1 .left) ∙ refuse-no BadColour (le-ltb _ _ (c .if2 .left))))
+    (sym
+    (ap number
+    (then-accepted _ _ (accepts-zero _ (sym (c .before .before .length-refusal2 .ensures) ∙ c .before .if1 .left))
+    ∙ passes BadColour (le-ltb _ _ (c .if2 .left)))))
 
 returns-6 : tie.Need-returns-6
 unfolding number

@@ -11,8 +11,8 @@ use lib.ListN.{length, getD, take}
 use Rattle.rules.specs.Lists.{any}
 use Rattle.rules.specs.Points.{area}
 use Rattle.listing.specs.Seen.{keyOf, meets}
+use Rattle.points.specs.Laws.Around.{around-on}
 use Rattle.listing.specs.Laws.Lists.{any-found, any-missed}
-use Rattle.listing.specs.Laws.Seen.{around-on}
 use Rattle.listing.proofs.shows.met.Statement.{statement}
 use Rattle.listing.proofs.shows.met.Tie as tie
 

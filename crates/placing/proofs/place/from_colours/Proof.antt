@@ -12,7 +12,8 @@ use Rattle.rules.specs.Answers.{NoLiberty, number, accepts, refuse}
 use Rattle.rules.specs.Calls.{choked, sizeAnswer, boardAnswer}
 use Rattle.placing.specs.Placing.{Stands, Outcome}
 use Rattle.placing.specs.Laws.SoFar.{stands-placing, placed-sized}
-use Rattle.placing.specs.Laws.Answers.{zero-accepts, other-refuses, outcome-refused, outcome-accepted, outcome-as}
+use Rattle.rules.specs.Laws.Answers.{zero-accepts, other-refuses}
+use Rattle.placing.specs.Laws.Answers.{outcome-refused, outcome-accepted, outcome-as}
 use Rattle.placing.specs.Laws.Answers.{board-size, board-length, board-colour, board-choked}
 use Rattle.placing.proofs.place.from_colours.Statement.{statement}
 use Rattle.placing.proofs.place.from_colours.Tie as tie

@@ -5,7 +5,8 @@ use Prim.Native.Nat.{_≤_, _-_}
 use native.Mathlib.Omega.{arith}
 use lib.ListN.{length}
 use Rattle.placing.specs.Laws.SoFar.{SoFar, so-far-none, so-far-on, so-far-next, so-far-stuck, so-far-all, stands-free}
-use Rattle.placing.specs.Laws.Answers.{refuses, passes, outcome-refused, outcome-accepted, outcome-as}
+use Rattle.rules.specs.Laws.Answers.{refuses, passes}
+use Rattle.placing.specs.Laws.Answers.{outcome-refused, outcome-accepted, outcome-as}
 use Rattle.rules.specs.Colours.{at}
 use Rattle.rules.specs.Answers.{NoLiberty, number, accepts}
 use Rattle.placing.proofs.place.place.Statement.{statement}
