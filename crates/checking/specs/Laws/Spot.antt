@@ -1,18 +1,18 @@
 -- Laws of Spot: what each spot says of the row and the column.
-use mathlib.Core.Bool.{Bool, true, false, cond, not, _&&_}
+use mathlib.Core.Bool.{Bool, true, false, cond, not, _&&_, _||_}
 use mathlib.Core.List.{List}
 use mathlib.Core.Logic.{_≢_}
 use mathlib.Core.Path.{_≡_, refl, sym, ap, ap₂, _∙_, subst}
 use Prim.Native.Nat.{ℕ, _<_}
 use native.Mathlib.Omega.{arith}
 use lib.Dec.{eqb, ltb, leb}
-use borrow.Author.Tests.{eqb-true, eq-eqb, ne-eqb, leb-false}
-use Rattle.rules.specs.Points.{area, index}
+use borrow.Author.Tests.{eqb-true, eq-eqb, ne-eqb, leb-false, lt-leb}
+use Rattle.rules.specs.Points.{area, index, row, column}
 use Rattle.rules.specs.Colours as colours
 use Rattle.rules.specs.Colours.{at}
 use Rattle.rules.specs.Calls.{outside}
 use Rattle.rules.specs.Laws.Lists.{or-none-left, or-none-right}
-use Rattle.rules.specs.Laws.Points.{index-on}
+use Rattle.rules.specs.Laws.Points.{index-on, index-row-column, row-on, column-on}
 use Rattle.listing.specs.Laws.Answers.{off-not-on}
 use Rattle.checking.specs.declared.spot.Spot.{Spot}
 use Rattle.checking.specs.declared.spot.Spot.the-variants.{Off, Stone, Empty}
@@ -84,3 +84,12 @@ module _ (h w : ℕ) (cols : List ℕ) (r c : ℕ) where
 
   pub free-empty : (p : ℕ) → Free p → at cols p ≡ colours.empty
   free-empty p f = ap (at cols) (f .here) ∙ eqb-true _ colours.empty (f .vacant)
+
+-- the row and the column of a point lead to the point
+pub spot-of : (h w : ℕ) (cols : List ℕ) (p : ℕ) → p < area h w
+    → spotOf h w cols (row w p) (column w p) ≡ cond (eqb (at cols p) colours.empty) (Empty p) Stone
+unfolding outside
+spot-of h w cols p on =
+    by-tests h w cols (row w p) (column w p) false (eqb (at cols (index w (row w p) (column w p))) colours.empty)
+    (ap₂ _||_ (lt-leb h (row w p) (row-on h w p on)) (lt-leb w (column w p) (column-on h w p on))) refl
+    ∙ ap (λ (q : ℕ). cond (eqb (at cols q) colours.empty) (Empty q) Stone) (index-row-column w p)

@@ -1,0 +1,67 @@
+-- `legals_by`: the judge, then the refusals, then the list.
+use mathlib.Core.Path.{_≡_, sym, ap, _∙_}
+use lib.ListN.{length}
+use borrow.Author.Tests.{not-true, not-false}
+use Rattle.rules.specs.Answers.{Answer, number}
+use Rattle.rules.specs.Calls.{listAnswer}
+use Rattle.rules.specs.Laws.Lists.{not-both}
+use Rattle.listing.specs.Laws.Answers.{left-refused, left-filled}
+use Rattle.game.specs.View.{viewOf, TrueState, RoomIn}
+use Rattle.legals.specs.Laws.Promise.{list-refused, refused-enough, filled-damaged, filled-told}
+use borrow.Author.Needs.{needs}
+use Rattle.legals.proofs.list.legals_by.Statement.{statement}
+use Rattle.legals.proofs.list.legals_by.Tie as tie
+
+-- the state is a true one
+good : (c : tie.Else1) → let a = c .before .before .before .before .args in
+    TrueState (a .game) × RoomIn (a .game) (length (a .history .now))
+good c = c .before .judge-with .ensures .0 (not-false _ (c .if1 .left))
+
+-- the code's refusal is the rules'
+answer : (c : tie.After-refusal) → let a = c .before .before .before .before .before .before .args in
+    c .refusal .result ≡ number (listAnswer (viewOf (a .game)) (a .flags) (a .buffer .now))
+answer c =
+    let a = c .before .before .before .before .before .before .args in
+    c .refusal .ensures ∙ ap number (list-refused (a .game) (a .flags) (a .buffer .now))
+
+judge-with-requires : tie.Need-judge-with-requires
+judge-with-requires c κs = search needs
+
+returns : tie.Need-returns
+returns c = filled-damaged (λ is. not-both (c .before .judge-with .ensures .1 is) (not-true _ (c .if1 .taken)))
+
+refusal-requires : tie.Need-refusal-requires
+refusal-requires c κs = search needs
+
+returns-2 : tie.Need-returns-2
+returns-2 c =
+    let asked = c .before in
+    filled-told (good (asked .before .before)) (left-refused _ _ _ (asked .refusal .result) (answer asked) (c .if2 .taken))
+
+fill-requires : tie.Need-fill-requires
+fill-requires c κs =
+    let asked = c .before .before in
+    let is = good (asked .before .before) in
+    record { state = is .0; room = is .1; enough = refused-enough _ _ _ _ (sym (asked .refusal .ensures) ∙ c .before .if2 .left) }
+
+same-length : tie.Need-same-length
+same-length c = search needs
+
+returns-3 : tie.Need-returns-3
+returns-3 c =
+    let filled = c .before .before in
+    let passed = filled .before .before in
+    let asked = passed .before in
+    filled-told (good (asked .before .before)) (left-filled _ _ _ (sym (answer asked) ∙ passed .if2 .left) (filled .fill .ensures))
+
+pub legals-by-spec : {M : Type 1} → statement M
+legals-by-spec =
+    tie.close
+    (tie.spec
+    judge-with-requires
+    returns
+    refusal-requires
+    returns-2
+    fill-requires
+    same-length
+    returns-3)
