@@ -1,5 +1,8 @@
 -- What is proved about the definitions.
 pub mod Spot
 pub mod Told
+pub mod State
+pub mod Near
 pub mod Asking
+pub mod Tests
 pub mod Promise

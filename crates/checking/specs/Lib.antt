@@ -2,5 +2,6 @@
 pub mod Spot
 pub mod Told
 pub mod Asking
+pub mod Tests
 pub mod Promise
 pub mod Laws

@@ -1,41 +1,31 @@
 -- Laws of Asking: a capture may be laid whatever the flags forbid, and what the tests tell of what stands near is the rules' answer.
-use mathlib.Core.Bool.{Bool, true, false, cond, not, _&&_}
+use mathlib.Core.Bool.{Bool, true, false, not, _&&_}
 use mathlib.Core.List.{List}
-use mathlib.Core.Option.{none, some}
 use mathlib.Core.Path.{_≡_, refl, sym, ap, _∙_, subst}
-use Prim.Native.Nat.{ℕ, _≤_}
+use Prim.Native.Nat.{ℕ}
 use native.Mathlib.Omega.{arith}
 use lib.Dec.{eqb}
-use lib.ListN.{length}
 use borrow.Author.Tests.{not-true}
-use Rattle.rules.specs.Sizes.{maxArea}
 use Rattle.rules.specs.Lists.{any}
 use Rattle.rules.specs.Points.{neighbours}
 use Rattle.rules.specs.Colours.{empty, other, at}
 use Rattle.rules.specs.Records.{recorded}
 use Rattle.rules.specs.Flags.{SUICIDE, forbids}
-use Rattle.rules.specs.Tests.{inAtari, suicide, isKoPoint, ko, eye, captures, superko}
+use Rattle.rules.specs.Tests.{inAtari, suicide, ko, eye, captures, superko}
 use Rattle.rules.specs.Game.{Player}
 use Rattle.rules.specs.Answers.{OffBoard, PointNotEmpty, number}
 use Rattle.rules.specs.Calls.{offBoard, taken, resulting, forbiddenAnswer, pointAnswer}
 use Rattle.rules.specs.Laws.Lists.{and-right, not-yes, not-both}
-use Rattle.board.specs.declared.goban.Board.{Board}
 use Rattle.board.specs.Board.{coloursOf}
 use Rattle.board.specs.True.{TrueBoard}
-use Rattle.board.specs.Laws.Board.{area-fits, length-colours}
 use Rattle.listing.specs.Laws.Answers.{refused-then, passed-then}
 use Rattle.laying.specs.Laying.{Laying}
-use Rattle.history.specs.Packing.{onLargest}
-use Rattle.history.specs.Laws.Packing.{at-onLargest}
 use Rattle.legality.specs.declared.near.Near.{Near}
 use Rattle.legality.specs.declared.look.Seen.{Seen}
 use Rattle.legality.specs.Seen.{seenOf, nearIn}
-use Rattle.legality.specs.Near.{nearOf, besides, saves, catchesMore, caught}
-use Rattle.legality.specs.Laws.Near.{suicide-near, ko-near, captures-near}
-use Rattle.legality.specs.Laws.Seen.{near-seen}
-use Rattle.legality.specs.Laws.Eye.{eye-same}
+use Rattle.legality.specs.Near.{besides, saves, catchesMore, caught}
 use Rattle.game.specs.declared.state.Game.{Game}
-use Rattle.game.specs.View.{noPoint, turnOf, koOf, viewOf, TrueState, RoomIn}
+use Rattle.game.specs.View.{turnOf, koOf, viewOf, TrueState, RoomIn}
 use Rattle.game.specs.Laws.View.{turn-player}
 use Rattle.checking.specs.declared.spot.Spot.{Spot}
 use Rattle.checking.specs.declared.spot.Spot.the-variants.{Off, Stone, Empty}
@@ -44,6 +34,7 @@ use Rattle.checking.specs.Spot.{spotOf}
 use Rattle.checking.specs.Told.{atKo, toldOf, settled, undecided}
 use Rattle.checking.specs.Asking.{Asking, Repeating}
 use Rattle.checking.specs.Laws.Spot.{Free, off-outside, stone-taken, empty-free, free-on, free-empty}
+use Rattle.checking.specs.Laws.Near.{own-suicide, its-ko, own-eye, own-captures}
 use Rattle.checking.specs.Laws.Told.{told-settled, told-captures}
 
 -- ---- A capture may be laid
@@ -65,19 +56,6 @@ repeating-laying g n p is c e =
       player = turn-player (g .turn);
       allowed = not-yes (λ y. not-both (and-right (forbids (g .flags) SUICIDE) _ y) (capture-no-suicide _ _ _ _ p (is .captures)));
     })
-
--- ---- The ko point
-
-atKo-point : (h w : ℕ) (cols : List ℕ) (x p : ℕ) → atKo x p ≡ isKoPoint h w cols (koOf x) p
-unfolding atKo koOf isKoPoint
-atKo-point h w cols x p = go (eqb x noPoint)
-  where
-    go : (t : Bool) → not t && eqb p x ≡ isKoPoint h w cols (cond t none (some x)) p
-    go true = refl
-    go false = refl
-
-colours-fit : (b : Board) → TrueBoard b → length (coloursOf b) ≤ maxArea
-colours-fit b is = rw (length-colours b) (area-fits (is .table .size))
 
 -- ---- A point of the board, and whether it is empty
 
@@ -126,31 +104,13 @@ module _ (g : Game) (is : TrueBoard (g .board)) (flags p : ℕ) (s : Seen) (read
   abbrev cols : List ℕ
   cols = coloursOf (g .board)
 
-  beside : n ≡ nearOf h w cols p
-  beside =
-      near
-      ∙ ap (λ (x : Seen). nearIn h w (x .colours) (x .liberties) (x .stones) p) read
-      ∙ near-seen h w cols (area-fits (is .table .size)) p
-
-  own-suicide : not (any (saves own) (besides n)) ≡ suicide h w cols (turnOf (g .turn)) p
-  own-suicide = suicide-near h w cols n p beside own ∙ ap (λ (c : ℕ). suicide h w cols c p) mover
-
-  its-ko : k && not (any catchesMore (besides n)) ≡ ko h w cols (koOf (g .ko)) p
-  its-ko = ap (λ (b : Bool). b && not (any catchesMore (besides n))) (at-ko ∙ atKo-point h w cols (g .ko) p) ∙ ko-near h w cols n p beside (koOf (g .ko))
-
-  own-eye : eye h w (s .colours) own p ≡ eye h w cols (turnOf (g .turn)) p
-  unfolding seenOf onLargest
-  own-eye =
-      ap (λ (x : Seen). eye h w (x .colours) own p) read
-      ∙ eye-same h w (onLargest cols) cols own (λ q on. at-onLargest cols (colours-fit (g .board) is) q) p
-      ∙ ap (λ (c : ℕ). eye h w cols c p) mover
-
-  own-captures : any (caught (other own)) (besides n) ≡ captures h w cols (turnOf (g .turn)) p
-  own-captures = captures-near h w cols n p beside own ∙ ap (λ (c : ℕ). captures h w cols c p) mover
-
   by-rules : t ≡ toldOf flags (suicide h w cols (turnOf (g .turn)) p) (ko h w cols (koOf (g .ko)) p) (eye h w cols (turnOf (g .turn)) p)
       (captures h w cols (turnOf (g .turn)) p) (g .records)
-  by-rules = told ∙ (λ i. toldOf flags (own-suicide i) (its-ko i) (own-eye i) (own-captures i) (g .records))
+  by-rules =
+      told
+      ∙ (λ i.
+      toldOf flags (own-suicide g is p s read n near own mover i) (its-ko g is p s read n near k at-ko i) (own-eye g is p s read n near own mover i)
+      (own-captures g is p s read n near own mover i) (g .records))
 
   pub told-forbidden : (bytes : List ℕ) → settled t (recorded bytes (g .records) (resulting (viewOf g) p)) ≡ number (forbiddenAnswer (viewOf g) bytes flags p)
   unfolding viewOf forbiddenAnswer superko

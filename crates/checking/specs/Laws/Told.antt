@@ -1,13 +1,13 @@
 -- Laws of Told: what the tests tell settles to the rules' answer, and the records decide only where the stone captures.
 use mathlib.Core.Bool.{Bool, true, false, cond, not, _&&_, _||_}
 use mathlib.Core.Path.{_≡_, refl, sym, ap, _∙_}
-use mathlib.Core.Logic.{_≢_, ⊎-elim}
+use mathlib.Core.Logic.{_≢_}
 use Prim.Native.Nat.{ℕ}
 use lib.Dec.{ltb}
 use Rattle.rules.specs.Flags.{KO, SUICIDE, FILLEYE, SUPERKO, forbids}
 use Rattle.rules.specs.Answers as answers
 use Rattle.rules.specs.Answers.{number, accepts, refuse, _then_}
-use Rattle.rules.specs.Laws.Lists.{decided, not-both}
+use Rattle.rules.specs.Laws.Lists.{not-both}
 use Rattle.listing.specs.Laws.Answers.{accepts-zero, refuses-other}
 use Rattle.checking.specs.declared.superko.Told.{Told}
 use Rattle.checking.specs.declared.superko.Told.the-variants.{Answer, IfRecorded}
@@ -79,28 +79,33 @@ module _ (flags : ℕ) (suicide ko eye captures : Bool) (records first : ℕ)
 
 -- ---- Where the records decide, the stone captures
 
-told-silent : (flags : ℕ) (suicide ko eye : Bool) (records : ℕ) → undecided (toldOf flags suicide ko eye false records) ≡ false
-unfolding toldOf superkoTold
-told-silent flags suicide ko eye records =
-    go (firstRefusal (forbids flags SUICIDE && suicide) (forbids flags KO && ko) (forbids flags FILLEYE && eye)) (forbids flags SUPERKO) (ltb 2 records)
+superko-silent : (ko : Bool) (records : ℕ) → undecided (superkoTold false ko records) ≡ false
+unfolding superkoTold
+superko-silent ko records = go (ltb 2 records)
   where
-    go : (first : answers.Answer) (d many : Bool) →
-        undecided
-        (cond (accepts first)
-        (cond d (cond (many && false) (cond ko (Answer (number answers.SuperKo)) IfRecorded) (Answer (number answers.Accepted)))
-        (Answer (number answers.Accepted)))
-        (Answer (number first)))
-        ≡ false
-    go first d many = ⊎-elim (λ (e : accepts first ≡ true). rw e (rest d many)) (λ (e : accepts first ≡ false). rw e) (decided (accepts first))
+    go : (many : Bool) →
+        undecided (cond (many && false) (cond ko (Answer (number answers.SuperKo)) IfRecorded) (Answer (number answers.Accepted))) ≡ false
+    go true = refl
+    go false = refl
+
+told-silent : (flags : ℕ) (suicide ko eye : Bool) (records : ℕ) → undecided (toldOf flags suicide ko eye false records) ≡ false
+unfolding toldOf
+told-silent flags suicide ko eye records =
+    go (firstRefusal (forbids flags SUICIDE && suicide) (forbids flags KO && ko) (forbids flags FILLEYE && eye)) (forbids flags SUPERKO)
+    (superkoTold false ko records) (superko-silent ko records)
+  where
+    go : (first : answers.Answer) (d : Bool) (last : Told) → undecided last ≡ false →
+        undecided (cond (accepts first) (cond d last (Answer (number answers.Accepted))) (Answer (number first))) ≡ false
+    go first d last e = pick (accepts first) d
       where
-        rest : (d many : Bool) →
-            undecided
-            (cond d (cond (many && false) (cond ko (Answer (number answers.SuperKo)) IfRecorded) (Answer (number answers.Accepted)))
-            (Answer (number answers.Accepted)))
-            ≡ false
-        rest false many = refl
-        rest true false = refl
-        rest true true = refl
+        pick : (a d : Bool) → undecided (cond a (cond d last (Answer (number answers.Accepted))) (Answer (number first))) ≡ false
+        pick true true = e
+        pick true false = refl
+        pick false d = refl
+
+pub superko-captures : (captures ko : Bool) (records : ℕ) → undecided (superkoTold captures ko records) ≡ true → captures ≡ true
+superko-captures true ko records e = refl
+superko-captures false ko records e = absurd (not-both e (superko-silent ko records))
 
 pub told-captures :
     (flags : ℕ) (suicide ko eye captures : Bool) (records : ℕ) → undecided (toldOf flags suicide ko eye captures records) ≡ true → captures ≡ true

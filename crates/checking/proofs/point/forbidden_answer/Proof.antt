@@ -1,6 +1,6 @@
 -- `forbidden_answer`: what the tests tell settles to the answer, by the records where they decide.
 use mathlib.Core.Bool.{Bool}
-use mathlib.Core.Path.{_≡_, refl, sym, ap, ap₂, _∙_, subst}
+use mathlib.Core.Path.{_≡_, refl, sym, ap, ap₂, _∙_}
 use borrow.Author.Needs.{needs}
 use Rattle.rules.specs.Records.{recorded}
 use Rattle.rules.specs.Answers.{number, refuse}
@@ -8,11 +8,7 @@ use Rattle.rules.specs.Calls.{resulting, forbiddenAnswer}
 use Rattle.game.specs.View.{viewOf}
 use Rattle.checking.specs.declared.superko.Told.{Told}
 use Rattle.checking.specs.Told.{settled, undecided}
-use Rattle.board.specs.Board.{coloursOf}
-use Rattle.board.specs.Laws.Board.{area-fits}
-use Rattle.legality.specs.declared.look.Seen.{Seen}
-use Rattle.legality.specs.Seen.{Shows}
-use Rattle.legality.specs.Laws.Seen.{seen-shows}
+use Rattle.checking.specs.Laws.Near.{read-shows}
 use Rattle.checking.specs.Laws.Asking.{told-forbidden, told-repeating}
 use Rattle.checking.proofs.point.forbidden_answer.Statement.{statement}
 use Rattle.checking.proofs.point.forbidden_answer.Tie as tie
@@ -38,9 +34,7 @@ near-requires : tie.Need-near-requires
 near-requires c κs =
     let seen = c .before .before .before .before .before .before in
     let start = seen .before .before .before in
-    let b = start .args .game .board in
-    subst (λ (s : Seen). Shows (b .height) (b .width) (s .colours) (s .liberties) (s .stones)) (sym (seen .seen-of .ensures))
-    (seen-shows (b .height) (b .width) (coloursOf b) (area-fits (start .pre .state .board .table .size)))
+    read-shows (start .args .game .board) (start .pre .state .board) _ (seen .seen-of .ensures)
 
 player-of-requires : tie.Need-player-of-requires
 player-of-requires c κs = search needs

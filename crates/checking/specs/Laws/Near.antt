@@ -1,0 +1,86 @@
+-- Laws of what stands near a point of a true state: the tests on it are the rules' tests for the player to move.
+use mathlib.Core.Bool.{Bool, true, false, cond, not, _&&_}
+use mathlib.Core.List.{List}
+use mathlib.Core.Option.{none, some}
+use mathlib.Core.Path.{_≡_, refl, sym, ap, _∙_, subst}
+use Prim.Native.Nat.{ℕ, _≤_}
+use lib.Dec.{eqb}
+use lib.ListN.{length}
+use Rattle.rules.specs.Sizes.{maxArea}
+use Rattle.rules.specs.Lists.{any}
+use Rattle.rules.specs.Colours.{other}
+use Rattle.rules.specs.Tests.{suicide, isKoPoint, ko, eye, captures}
+use Rattle.board.specs.declared.goban.Board.{Board}
+use Rattle.board.specs.Board.{coloursOf}
+use Rattle.board.specs.True.{TrueBoard}
+use Rattle.board.specs.Laws.Board.{area-fits, length-colours}
+use Rattle.history.specs.Packing.{onLargest}
+use Rattle.history.specs.Laws.Packing.{at-onLargest}
+use Rattle.legality.specs.declared.near.Near.{Near}
+use Rattle.legality.specs.declared.look.Seen.{Seen}
+use Rattle.legality.specs.Near.{nearOf, besides, saves, catchesMore, caught}
+use Rattle.legality.specs.Seen.{seenOf, Shows, nearIn}
+use Rattle.legality.specs.Laws.Near.{suicide-near, ko-near, captures-near}
+use Rattle.legality.specs.Laws.Seen.{seen-shows, near-seen}
+use Rattle.legality.specs.Laws.Eye.{eye-same}
+use Rattle.game.specs.declared.state.Game.{Game}
+use Rattle.game.specs.View.{noPoint, turnOf, koOf}
+use Rattle.checking.specs.Told.{atKo}
+
+-- ---- The ko point
+
+atKo-point : (h w : ℕ) (cols : List ℕ) (x p : ℕ) → atKo x p ≡ isKoPoint h w cols (koOf x) p
+unfolding atKo koOf isKoPoint
+atKo-point h w cols x p = go (eqb x noPoint)
+  where
+    go : (t : Bool) → not t && eqb p x ≡ isKoPoint h w cols (cond t none (some x)) p
+    go true = refl
+    go false = refl
+
+-- ---- What a true board shows
+
+pub read-shows : (b : Board) → TrueBoard b → (s : Seen) → s ≡ seenOf (b .height) (b .width) (coloursOf b)
+    → Shows (b .height) (b .width) (s .colours) (s .liberties) (s .stones)
+read-shows b is s read =
+    subst (λ (x : Seen). Shows (b .height) (b .width) (x .colours) (x .liberties) (x .stones)) (sym read)
+    (seen-shows (b .height) (b .width) (coloursOf b) (area-fits (is .table .size)))
+
+-- ---- The four
+
+pub colours-fit : (b : Board) → TrueBoard b → length (coloursOf b) ≤ maxArea
+colours-fit b is = rw (length-colours b) (area-fits (is .table .size))
+
+module _ (g : Game) (is : TrueBoard (g .board)) (p : ℕ) (s : Seen) (read : s ≡ seenOf (g .board .height) (g .board .width) (coloursOf (g .board)))
+    (n : Near) (near : n ≡ nearIn (g .board .height) (g .board .width) (s .colours) (s .liberties) (s .stones) p) where
+  abbrev h : ℕ
+  h = g .board .height
+
+  abbrev w : ℕ
+  w = g .board .width
+
+  abbrev cols : List ℕ
+  cols = coloursOf (g .board)
+
+  beside : n ≡ nearOf h w cols p
+  beside =
+      near
+      ∙ ap (λ (x : Seen). nearIn h w (x .colours) (x .liberties) (x .stones) p) read
+      ∙ near-seen h w cols (area-fits (is .table .size)) p
+
+  pub its-ko : (k : Bool) → k ≡ atKo (g .ko) p → k && not (any catchesMore (besides n)) ≡ ko h w cols (koOf (g .ko)) p
+  its-ko k at-ko =
+      ap (λ (b : Bool). b && not (any catchesMore (besides n))) (at-ko ∙ atKo-point h w cols (g .ko) p) ∙ ko-near h w cols n p beside (koOf (g .ko))
+
+  module _ (own : ℕ) (mover : own ≡ turnOf (g .turn)) where
+    pub own-suicide : not (any (saves own) (besides n)) ≡ suicide h w cols (turnOf (g .turn)) p
+    own-suicide = suicide-near h w cols n p beside own ∙ ap (λ (c : ℕ). suicide h w cols c p) mover
+
+    pub own-eye : eye h w (s .colours) own p ≡ eye h w cols (turnOf (g .turn)) p
+    unfolding seenOf onLargest
+    own-eye =
+        ap (λ (x : Seen). eye h w (x .colours) own p) read
+        ∙ eye-same h w (onLargest cols) cols own (λ q on. at-onLargest cols (colours-fit (g .board) is) q) p
+        ∙ ap (λ (c : ℕ). eye h w cols c p) mover
+
+    pub own-captures : any (caught (other own)) (besides n) ≡ captures h w cols (turnOf (g .turn)) p
+    own-captures = captures-near h w cols n p beside own ∙ ap (λ (c : ℕ). captures h w cols c p) mover

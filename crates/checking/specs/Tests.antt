@@ -1,0 +1,30 @@
+-- The tests as questions about a row and a column, by the rules. Where a stone stands nothing is laid, so each says no.
+use mathlib.Core.Bool.{Bool, not, _&&_}
+use mathlib.Core.List.{List}
+use Prim.Native.Nat.{ℕ}
+use Rattle.rules.specs.Points.{index}
+use Rattle.rules.specs.Tests.{captures, suicide, ko, eye, superko}
+use Rattle.rules.specs.Game.{Game}
+use Rattle.rules.specs.Calls.{taken, resulting}
+use Rattle.checking.specs.declared.ask.Test.{Test}
+use Rattle.checking.specs.declared.ask.Test.the-variants as tests
+
+-- an empty point that passes
+unfoldable pub atEmpty : Game → (ℕ → Bool) → ℕ → ℕ → Bool
+atEmpty g test r c = not (taken g (index (g .width) r c)) && test (index (g .width) r c)
+
+-- for the player to move
+abbrev pub tested : Game → ℕ → Test → Bool
+tested g p tests.Capture = captures (g .height) (g .width) (g .colours) (g .turn) p
+tested g p tests.Suicide = suicide (g .height) (g .width) (g .colours) (g .turn) p
+tested g p tests.Ko = ko (g .height) (g .width) (g .colours) (g .koPoint) p
+tested g p tests.Eye = eye (g .height) (g .width) (g .colours) (g .turn) p
+
+unfoldable pub testedAt : Game → ℕ → ℕ → Test → Bool
+testedAt g r c test = atEmpty g (λ p. tested g p test) r c
+
+unfoldable pub superkoOf : Game → List ℕ → ℕ → Bool
+superkoOf g bytes p = superko (g .height) (g .width) (g .colours) bytes (g .records) (g .koPoint) (resulting g p) (g .turn) p
+
+unfoldable pub superkoAt : Game → List ℕ → ℕ → ℕ → Bool
+superkoAt g bytes r c = atEmpty g (superkoOf g bytes) r c

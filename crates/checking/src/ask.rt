@@ -1,0 +1,111 @@
+// What is asked of a point for the player to move: the tests of the crate's game.rs that need no history, each by itself. No stone is
+// laid on another, so where one stands each answers no.
+use crate::point::is_ko_point;
+use crate::spot::Spot;
+use crate::spot::spot_at;
+use game::calls::player_of;
+use game::judge::judge_state;
+use game::state::Game;
+use legality::eye::is_eye;
+use legality::look::near;
+use legality::look::seen_of;
+use legality::near::is_ko;
+use legality::near::is_suicide;
+use legality::near::will_capture as captures;
+use points::answers::ACCEPTED;
+use points::answers::DAMAGED;
+use points::answers::OFF_BOARD;
+use queries::goban::TestAnswer;
+ghost use mathlib.Core.Path.{_≡_};
+ghost use Rattle.rules.specs.Calls.{offBoard};
+ghost use Rattle.game.specs.View.{viewOf, TrueState};
+ghost use Rattle.checking.specs.Tests.{tested, testedAt};
+ghost use Rattle.checking.specs.Promise.{Tested};
+
+// The tests that need no history.
+pub enum Test {
+    Capture,
+    Suicide,
+    Ko,
+    Eye,
+}
+
+// The test at a point of the board.
+fn holds(game: Game, point: usize, test: Test) -> bool
+    requires { ⌜ TrueState game ⌝ }
+    ensures { λ r. ⌜ r ≡ tested (viewOf game) point test ⌝ }
+{
+    let board = game.board;
+    let height = board.height;
+    let width = board.width;
+    let colour = player_of(game.turn);
+    let seen = seen_of(board);
+    let colours = seen.colours;
+    let liberties = seen.liberties;
+    let stones = seen.stones;
+    let around = near(&colours, &liberties, &stones, height, width, point);
+    match test {
+        Test::Capture => captures(around, colour),
+        Test::Suicide => is_suicide(around, colour),
+        Test::Ko => is_ko(around, is_ko_point(game.ko, point)),
+        Test::Eye => is_eye(&colours, height, width, point, colour),
+    }
+}
+
+// The test at a row and a column, of any state.
+fn asked(game: Game, row: u8, column: u8, test: Test) -> TestAnswer
+    ensures { λ r. ⌜ Tested (TrueState game) (offBoard (viewOf game) row column) (testedAt (viewOf game) row column test) r ⌝ }
+{
+    if !judge_state(game) {
+        return TestAnswer {
+            answer: DAMAGED,
+            holds: false,
+        };
+    }
+    let spot = spot_at(game.board, row, column);
+    match spot {
+        Spot::Off => TestAnswer {
+            answer: OFF_BOARD,
+            holds: false,
+        },
+        Spot::Stone => TestAnswer {
+            answer: ACCEPTED,
+            holds: false,
+        },
+        Spot::Empty(point) => {
+            let yes = holds(game, point, test);
+            TestAnswer {
+                answer: ACCEPTED,
+                holds: yes,
+            }
+        }
+    }
+}
+
+// A stone there takes the last liberty of an enemy chain.
+pub fn will_capture(game: Game, row: u8, column: u8) -> TestAnswer
+    ensures { λ r. ⌜ Tested (TrueState game) (offBoard (viewOf game) row column) (testedAt (viewOf game) row column Test.Capture) r ⌝ }
+{
+    asked(game, row, column, Test::Capture)
+}
+
+// The crate's `check_suicide`.
+pub fn is_suicide_at(game: Game, row: u8, column: u8) -> TestAnswer
+    ensures { λ r. ⌜ Tested (TrueState game) (offBoard (viewOf game) row column) (testedAt (viewOf game) row column Test.Suicide) r ⌝ }
+{
+    asked(game, row, column, Test::Suicide)
+}
+
+// The crate's `check_ko`.
+pub fn is_ko_at(game: Game, row: u8, column: u8) -> TestAnswer
+    ensures { λ r. ⌜ Tested (TrueState game) (offBoard (viewOf game) row column) (testedAt (viewOf game) row column Test.Ko) r ⌝ }
+{
+    asked(game, row, column, Test::Ko)
+}
+
+// The crate's `check_eye`.
+pub fn is_eye_at(game: Game, row: u8, column: u8) -> TestAnswer
+    ensures { λ r. ⌜ Tested (TrueState game) (offBoard (viewOf game) row column) (testedAt (viewOf game) row column Test.Eye) r ⌝ }
+{
+    asked(game, row, column, Test::Eye)
+}
