@@ -18,7 +18,7 @@ use points::stones::other;
 ghost use mathlib.Core.Path.{_≡_};
 ghost use mathlib.Core.List.{[]};
 ghost use Rattle.rules.specs.Calls as rules;
-ghost use Rattle.game.specs.View.{turnOf, viewOf, freshState};
+ghost use Rattle.game.specs.View.{turnOf, viewOf, TrueState, freshState};
 ghost use Rattle.game.specs.Promise.{Made, CalledAlone};
 
 pub struct Answered {
@@ -91,15 +91,11 @@ pub fn new_game(height: u8, width: u8, flags: u8) -> Answered
     }
 }
 
-pub fn pass(game: Game) -> Answered
+// The three calls on a state that is known to be true, so that a row of calls judges it once.
+pub fn pass_true(game: Game) -> Answered
+    requires { ⌜ TrueState game ⌝ }
     ensures { λ r. ⌜ CalledAlone (rules.pass (viewOf game) []) game (r .answer) (r .game) ⌝ }
 {
-    if !judge_state(game) {
-        return Answered {
-            answer: DAMAGED,
-            game: game,
-        };
-    }
     if game.passes == 2 {
         return Answered {
             answer: GAME_PAUSED,
@@ -120,15 +116,10 @@ pub fn pass(game: Game) -> Answered
 }
 
 // The outcome names the player that the byte names.
-pub fn resign(game: Game, player: u8) -> Answered
+pub fn resign_true(game: Game, player: u8) -> Answered
+    requires { ⌜ TrueState game ⌝ }
     ensures { λ r. ⌜ CalledAlone (rules.resign (viewOf game) [] (turnOf player)) game (r .answer) (r .game) ⌝ }
 {
-    if !judge_state(game) {
-        return Answered {
-            answer: DAMAGED,
-            game: game,
-        };
-    }
     if game.passes == 2 {
         return Answered {
             answer: GAME_PAUSED,
@@ -144,6 +135,43 @@ pub fn resign(game: Game, player: u8) -> Answered
     }
 }
 
+pub fn resume_true(game: Game) -> Answered
+    requires { ⌜ TrueState game ⌝ }
+    ensures { λ r. ⌜ CalledAlone (rules.resume (viewOf game) []) game (r .answer) (r .game) ⌝ }
+{
+    let mut after = game;
+    after.passes = 0;
+    Answered {
+        answer: ACCEPTED,
+        game: after,
+    }
+}
+
+// The same for any state at all.
+pub fn pass(game: Game) -> Answered
+    ensures { λ r. ⌜ CalledAlone (rules.pass (viewOf game) []) game (r .answer) (r .game) ⌝ }
+{
+    if !judge_state(game) {
+        return Answered {
+            answer: DAMAGED,
+            game: game,
+        };
+    }
+    pass_true(game)
+}
+
+pub fn resign(game: Game, player: u8) -> Answered
+    ensures { λ r. ⌜ CalledAlone (rules.resign (viewOf game) [] (turnOf player)) game (r .answer) (r .game) ⌝ }
+{
+    if !judge_state(game) {
+        return Answered {
+            answer: DAMAGED,
+            game: game,
+        };
+    }
+    resign_true(game, player)
+}
+
 pub fn resume(game: Game) -> Answered
     ensures { λ r. ⌜ CalledAlone (rules.resume (viewOf game) []) game (r .answer) (r .game) ⌝ }
 {
@@ -153,10 +181,5 @@ pub fn resume(game: Game) -> Answered
             game: game,
         };
     }
-    let mut after = game;
-    after.passes = 0;
-    Answered {
-        answer: ACCEPTED,
-        game: after,
-    }
+    resume_true(game)
 }
