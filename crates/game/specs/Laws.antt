@@ -3,3 +3,4 @@ pub mod View
 pub mod Judge
 pub mod Promise
 pub mod After
+pub mod Unique

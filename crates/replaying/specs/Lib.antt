@@ -1,0 +1,3 @@
+-- A row of moves in order: what it promises.
+pub mod Replay
+pub mod Laws
