@@ -13,12 +13,12 @@ use Rattle.rules.specs.Records.{recorded}
 use Rattle.rules.specs.Flags.{SUICIDE, forbids}
 use Rattle.rules.specs.Tests.{inAtari, suicide, ko, eye, captures, superko}
 use Rattle.rules.specs.Game.{Player}
-use Rattle.rules.specs.Answers.{OffBoard, PointNotEmpty, number}
+use Rattle.rules.specs.Answers.{number, OffBoard, PointNotEmpty}
 use Rattle.rules.specs.Calls.{offBoard, taken, resulting, forbiddenAnswer, pointAnswer}
 use Rattle.rules.specs.Laws.Lists.{and-right, not-yes, not-both}
 use Rattle.board.specs.Board.{coloursOf}
 use Rattle.board.specs.True.{TrueBoard}
-use Rattle.listing.specs.Laws.Answers.{refused-then, passed-then}
+use Rattle.rules.specs.Laws.Answers.{refused-then, passed-then}
 use Rattle.laying.specs.Laying.{Laying}
 use Rattle.legality.specs.declared.near.Near.{Near}
 use Rattle.legality.specs.declared.look.Seen.{Seen}

@@ -5,11 +5,11 @@ use Prim.Native.Nat.{ℕ, _≤_, _<_}
 use native.Mathlib.Omega.{arith}
 use borrow.Author.Tests.{lt-ltb, le-ltb}
 use Rattle.rules.specs.Sizes.{maxFlags}
-use Rattle.rules.specs.Answers.{Answer, BadFlags, Damaged, number}
+use Rattle.rules.specs.Answers.{Answer, number, BadFlags, Damaged}
 use Rattle.rules.specs.Calls.{flagsAnswer, checkAnswer, pointAnswer}
 use Rattle.rules.specs.Game as rules
 use Rattle.rules.specs.Laws.Lists.{both-ways}
-use Rattle.listing.specs.Laws.Answers.{refused-then, passed-then}
+use Rattle.rules.specs.Laws.Answers.{refused-then, passed-then}
 use Rattle.checking.specs.Promise.{Checked}
 
 module _ {is : Type 0} {said : Answer} where

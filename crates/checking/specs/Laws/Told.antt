@@ -8,7 +8,7 @@ use Rattle.rules.specs.Flags.{KO, SUICIDE, FILLEYE, SUPERKO, forbids}
 use Rattle.rules.specs.Answers as answers
 use Rattle.rules.specs.Answers.{number, accepts, refuse, _then_}
 use Rattle.rules.specs.Laws.Lists.{not-both}
-use Rattle.listing.specs.Laws.Answers.{accepts-zero, refuses-other}
+use Rattle.rules.specs.Laws.Answers.{accepts-zero, refuses-other}
 use Rattle.checking.specs.declared.superko.Told.{Told}
 use Rattle.checking.specs.declared.superko.Told.the-variants.{Answer, IfRecorded}
 use Rattle.checking.specs.Told.{superkoTold, firstRefusal, toldOf, settled, undecided}

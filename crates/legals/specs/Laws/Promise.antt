@@ -8,13 +8,14 @@ use lib.ListN.{length}
 use borrow.Author.Tests.{ltb-false}
 use Rattle.rules.specs.Points.{area}
 use Rattle.rules.specs.Lists.{same}
-use Rattle.rules.specs.Answers.{Answer, BadLength, Damaged, number}
+use Rattle.rules.specs.Answers.{Answer, number, BadLength, Damaged}
 use Rattle.rules.specs.Calls.{flagsAnswer, listAnswer}
 use Rattle.rules.specs.Laws.Lists.{both-ways, decided, not-both, same-equal, same-self}
 use Rattle.rules.specs.Laws.Calls.{then-second, refuse-not}
 use Rattle.listing.specs.declared.list.Listed.{Listed}
 use Rattle.listing.specs.Lists.{lengthAnswer, Left}
-use Rattle.listing.specs.Laws.Answers.{accepts-zero, length-enough, left-refused}
+use Rattle.listing.specs.Laws.Answers.{length-enough, left-refused}
+use Rattle.rules.specs.Laws.Answers.{accepts-zero}
 use Rattle.game.specs.declared.state.Game.{Game}
 use Rattle.game.specs.View.{viewOf}
 use Rattle.legals.specs.Legals.{refused}

@@ -9,14 +9,14 @@ use lib.ListN.{length}
 use borrow.Author.Tests.{eq-eqb, ne-eqb}
 use Rattle.rules.specs.Sizes.{maxArea}
 use Rattle.rules.specs.Colours.{white}
-use Rattle.rules.specs.Answers.{Answer, NotAtStart, number, accepts}
+use Rattle.rules.specs.Answers.{Answer, number, accepts, NotAtStart}
 use Rattle.rules.specs.Game as rules
 use Rattle.rules.specs.Calls.{Spot, layBlack, layAnswer, handicapAnswer, handicapGame, handicapped}
 use Rattle.rules.specs.Laws.Keep.{handicap-keeps}
 use Rattle.board.specs.Board.{coloursOf}
 use Rattle.placing.specs.declared.place.Placed.{Placed}
 use Rattle.placing.specs.Placing.{Stands, Bare, spotsOf, Handicapped}
-use Rattle.placing.specs.Laws.Answers.{test-refuses, test-passes, zero-accepts, other-refuses}
+use Rattle.rules.specs.Laws.Answers.{test-refuses, test-passes, zero-accepts, other-refuses}
 use Rattle.game.specs.declared.state.Game.{Game}
 use Rattle.game.specs.View.{turnOf, koOf, outcomeOf, begunOf, viewOf, TrueState}
 use Rattle.game.specs.Promise.{CalledAlone}

@@ -15,7 +15,7 @@ use Rattle.rules.specs.Points.{index}
 use Rattle.rules.specs.Colours.{other}
 use Rattle.rules.specs.Move.{coloured, removed}
 use Rattle.rules.specs.Records.{full, capacity, bytesAfter}
-use Rattle.rules.specs.Answers.{Answer, Accepted, GamePaused, MoveLimit, HistoryFull, number, accepts, refuse, _then_}
+use Rattle.rules.specs.Answers.{Answer, number, accepts, refuse, _then_, Accepted, GamePaused, MoveLimit, HistoryFull}
 use Rattle.rules.specs.Game as rules
 use Rattle.rules.specs.Calls.{Result, paused, resulting, pointAnswer, stoneAnswer, stoneGame, stone}
 use Rattle.rules.specs.Laws.Colours.{other-player}
@@ -29,7 +29,7 @@ use Rattle.board.specs.Board.{coloursOf}
 use Rattle.board.specs.Laws.Board.{area-fits}
 use Rattle.laying.specs.declared.lay.Laid.{Laid}
 use Rattle.laying.specs.Laying.{Laying, LaidOut}
-use Rattle.placing.specs.Laws.Answers.{then-refused, then-accepted, refuses, passes, test-refuses, test-passes, zero-accepts, other-refuses}
+use Rattle.rules.specs.Laws.Answers.{then-refused, then-accepted, refuses, passes, test-refuses, test-passes, zero-accepts, other-refuses}
 use Rattle.history.specs.History.{Noted}
 use Rattle.game.specs.declared.state.Game.{Game}
 use Rattle.game.specs.declared.state.Tally.{Tally}

@@ -5,9 +5,9 @@ use native.Mathlib.Omega.{arith}
 use borrow.Author.Needs.{needs}
 use borrow.Author.Tests.{lt-ltb, le-ltb}
 use Rattle.rules.specs.Sizes.{maxFlags}
-use Rattle.rules.specs.Answers.{BadFlags, number}
+use Rattle.rules.specs.Answers.{number, BadFlags}
 use Rattle.rules.specs.Calls.{flagsAnswer}
-use Rattle.listing.specs.Laws.Answers.{refused-then, passed-then}
+use Rattle.rules.specs.Laws.Answers.{refused-then, passed-then}
 use Rattle.legals.specs.Legals.{refused}
 use Rattle.legals.proofs.list.refusal.Statement.{statement}
 use Rattle.legals.proofs.list.refusal.Tie as tie
