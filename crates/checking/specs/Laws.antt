@@ -4,5 +4,4 @@ pub mod Told
 pub mod State
 pub mod Near
 pub mod Asking
-pub mod Tests
 pub mod Promise

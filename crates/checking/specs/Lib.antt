@@ -2,6 +2,5 @@
 pub mod Spot
 pub mod Told
 pub mod Asking
-pub mod Tests
 pub mod Promise
 pub mod Laws

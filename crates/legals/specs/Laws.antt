@@ -1,3 +1,2 @@
 -- What is proved about the definitions.
 pub mod Legals
-pub mod Promise

@@ -1,4 +1,3 @@
--- The list of the legal points: what is told of each point, and what the calls promise.
+-- The list of the legal points: what is told of each point.
 pub mod Legals
-pub mod Promise
 pub mod Laws

@@ -1,6 +1,5 @@
 // The legal points of the player to move, in a lent buffer, by the names of the crate's game.rs. The state is judged once, and the
 // board is read once into numbers that are lent to the tests: it is copied only where a capture might bring a recorded board back.
-use board::goban::Board;
 use checking::point::is_ko_point;
 use checking::refusal::told;
 use checking::superko::Told;
@@ -21,18 +20,17 @@ use points::sizes::MAX_AREA;
 use points::sizes::MAX_FLAGS;
 use points::stones::EMPTY;
 ghost use mathlib.Core.Path.{_≡_};
-ghost use Prim.Native.Nat.{_≤_, _<_};
+ghost use Prim.Native.Nat.{_<_};
 ghost use lib.ListN.{length};
 ghost use Rattle.rules.specs.Answers.{number};
 ghost use Rattle.rules.specs.Points as points;
 ghost use Rattle.rules.specs.Calls as rules;
 ghost use Rattle.legality.specs.Seen.{Shows};
 ghost use Rattle.listing.specs.Front.{Front};
-ghost use Rattle.listing.specs.Lists.{Left};
 ghost use Rattle.game.specs.View.{viewOf, TrueState, RoomIn};
+ghost use Rattle.checking.specs.Promise.{Filled};
 ghost use Rattle.checking.specs.Told.{undecided};
 ghost use Rattle.legals.specs.Legals.{toldAt, settledFree, refused, Filling};
-ghost use Rattle.legals.specs.Promise.{Filled};
 
 // What is told of a point of the board before any stone is laid.
 fn told_at(

@@ -7,7 +7,6 @@ use Prim.Native.Nat.{ℕ, _≤_, _<_}
 use lib.Dec.{eqb}
 use lib.ListN.{length}
 use borrow.Author.Tests.{eqb-true, eq-eqb}
-use Rattle.rules.specs.Sizes.{maxArea}
 use Rattle.rules.specs.Lists.{any}
 use Rattle.rules.specs.Points.{area, row, column}
 use Rattle.rules.specs.Colours.{empty, other, at}
@@ -15,11 +14,13 @@ use Rattle.rules.specs.Tests.{eye}
 use Rattle.rules.specs.Records.{recorded}
 use Rattle.rules.specs.Answers as answers
 use Rattle.rules.specs.Answers.{number, accepts, refuse}
-use Rattle.rules.specs.Calls.{resulting, pointAnswer}
+use Rattle.rules.specs.Calls.{flagsAnswer, listAnswer, resulting, pointAnswer}
 use Rattle.rules.specs.Laws.Lists.{decided, not-both}
+use Rattle.rules.specs.Laws.Calls.{then-second}
+use Rattle.listing.specs.Lists.{lengthAnswer}
+use Rattle.listing.specs.Laws.Answers.{accepts-zero, length-enough}
 use Rattle.board.specs.Board.{coloursOf}
 use Rattle.board.specs.True.{TrueBoard}
-use Rattle.board.specs.Laws.Board.{area-fits, length-colours}
 use Rattle.history.specs.Packing.{onLargest}
 use Rattle.history.specs.Laws.Packing.{at-onLargest}
 use Rattle.legality.specs.declared.look.Seen.{Seen}
@@ -35,8 +36,9 @@ use Rattle.checking.specs.Told.{atKo, toldOf, settled, undecided}
 use Rattle.checking.specs.Spot.{spotOf}
 use Rattle.checking.specs.Asking.{Asking, Repeating}
 use Rattle.checking.specs.Laws.Spot.{spot-of}
+use Rattle.checking.specs.Laws.Near.{colours-fit}
 use Rattle.checking.specs.Laws.Asking.{stone-answer, empty-answer, told-forbidden, told-repeating}
-use Rattle.legals.specs.Legals.{toldAt, settledFree}
+use Rattle.legals.specs.Legals.{toldAt, settledFree, refused}
 
 -- ---- What is told, with what the records hold
 
@@ -91,13 +93,10 @@ module _ (g : Game) (is : TrueBoard (g .board)) (flags p : ℕ) (on : p < area (
       (atKo (g .ko) p && not (any catchesMore (besides (nearIn h w (s .colours) (s .liberties) (s .stones) p))))
       (eye h w (s .colours) own p) (any (caught (other own)) (besides (nearIn h w (s .colours) (s .liberties) (s .stones) p))) (g .records)
 
-  fits : length cols ≤ maxArea
-  fits = rw (length-colours (g .board)) (area-fits (is .table .size))
-
   by-colour : (free : Bool) → eqb (at cols p) empty ≡ free → t ≡ cond free tests (Answer (number answers.PointNotEmpty))
   unfolding toldAt seenOf onLargest
   by-colour free e =
-      let shown : at (s .colours) p ≡ at cols p = ap (λ (x : Seen). at (x .colours) p) read ∙ at-onLargest cols fits p in
+      let shown : at (s .colours) p ≡ at cols p = ap (λ (x : Seen). at (x .colours) p) read ∙ at-onLargest cols (colours-fit (g .board) is) p in
       told ∙ ap (λ (b : Bool). cond b tests (Answer (number answers.PointNotEmpty))) (ap (λ (k : ℕ). eqb k empty) shown ∙ e)
 
   spot-by : (free : Bool) → eqb (at cols p) empty ≡ free → spotOf h w cols (row w p) (column w p) ≡ cond free (Empty p) Stone
@@ -135,3 +134,14 @@ module _ (g : Game) (is : TrueBoard (g .board)) (flags p : ℕ) (on : p < area (
       told-repeating g is flags p s read _ refl own mover _ refl t (by-colour true y) n asking e)
       (λ f. absurd (not-both e (ap undecided (by-colour false f))))
       (decided (eqb (at cols p) empty))
+
+-- ---- The refusals
+
+-- what the code refuses is what the rules refuse
+pub list-refused : (g : Game) (flags : ℕ) (buffer : List ℕ) → refused (g .board .height) (g .board .width) flags (length buffer) ≡ listAnswer (viewOf g) flags buffer
+unfolding refused lengthAnswer listAnswer viewOf
+list-refused g flags buffer = refl
+
+pub refused-enough : (h w flags n : ℕ) → number (refused h w flags n) ≡ 0 → area h w ≤ n
+unfolding refused
+refused-enough h w flags n e = length-enough h w n (then-second (flagsAnswer flags) (lengthAnswer h w n) (accepts-zero _ e))

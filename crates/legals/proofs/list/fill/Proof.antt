@@ -12,15 +12,12 @@ use Rattle.rules.specs.Lists.{pick, below}
 use Rattle.rules.specs.Points.{area, row, column}
 use Rattle.rules.specs.Answers.{accepts}
 use Rattle.rules.specs.Calls.{pointAnswer, legals}
-use Rattle.board.specs.Board.{coloursOf}
 use Rattle.board.specs.Laws.Board.{area-fits}
-use Rattle.legality.specs.declared.look.Seen.{Seen}
-use Rattle.legality.specs.Seen.{Shows}
-use Rattle.legality.specs.Laws.Seen.{seen-shows}
 use Rattle.listing.specs.Front.{Front}
 use Rattle.listing.specs.Laws.Front.{front-pick-none, front-pick, front-skip}
 use Rattle.game.specs.declared.state.Game.{Game}
 use Rattle.game.specs.View.{viewOf}
+use Rattle.checking.specs.Laws.Near.{read-shows}
 use Rattle.legals.specs.Laws.Legals.{legal-known, legal-again, legal-repeating}
 use Rattle.legals.proofs.list.fill.Statement.{statement}
 use Rattle.legals.proofs.list.fill.Tie as tie
@@ -91,11 +88,7 @@ told-at-requires c κs =
     let test = c .before .before .before in
     let seen = test .before .before .before .before .before .before in
     let start = seen .before .before .before .before .before in
-    let b = start .args .game .board in (
-      subst (λ (s : Seen). Shows (b .height) (b .width) (s .colours) (s .liberties) (s .stones)) (sym (seen .seen-of .ensures))
-          (seen-shows (b .height) (b .width) (coloursOf b) (area-fits (start .pre .state .board .table .size))),
-      on-board test,
-    )
+    (read-shows (start .args .game .board) (start .pre .state .board) _ (seen .seen-of .ensures), on-board test)
 
 is-free-requires : tie.Need-is-free-requires Inv-loop μ-loop
 is-free-requires c κs = search needs

@@ -2,12 +2,13 @@
 use mathlib.Core.Path.{_≡_, sym, ap, _∙_}
 use lib.ListN.{length}
 use borrow.Author.Tests.{not-true, not-false}
-use Rattle.rules.specs.Answers.{Answer, number}
+use Rattle.rules.specs.Answers.{number}
 use Rattle.rules.specs.Calls.{listAnswer}
 use Rattle.rules.specs.Laws.Lists.{not-both}
 use Rattle.listing.specs.Laws.Answers.{left-refused, left-filled}
 use Rattle.game.specs.View.{viewOf, TrueState, RoomIn}
-use Rattle.legals.specs.Laws.Promise.{list-refused, refused-enough, filled-damaged, filled-told}
+use Rattle.checking.specs.Laws.Promise.{filled-damaged, filled-told}
+use Rattle.legals.specs.Laws.Legals.{list-refused, refused-enough}
 use borrow.Author.Needs.{needs}
 use Rattle.legals.proofs.list.legals_by.Statement.{statement}
 use Rattle.legals.proofs.list.legals_by.Tie as tie

@@ -1,8 +1,8 @@
 // What is asked of a point for the player to move: the tests of the crate's game.rs that need no history, each by itself. No stone is
 // laid on another, so where one stands each answers no.
-use crate::point::is_ko_point;
-use crate::spot::Spot;
-use crate::spot::spot_at;
+use checking::point::is_ko_point;
+use checking::spot::Spot;
+use checking::spot::spot_at;
 use game::calls::player_of;
 use game::judge::judge_state;
 use game::state::Game;
@@ -19,8 +19,8 @@ use queries::goban::TestAnswer;
 ghost use mathlib.Core.Path.{_≡_};
 ghost use Rattle.rules.specs.Calls.{offBoard};
 ghost use Rattle.game.specs.View.{viewOf, TrueState};
-ghost use Rattle.checking.specs.Tests.{tested, testedAt};
-ghost use Rattle.checking.specs.Promise.{Tested};
+ghost use Rattle.asking.specs.Tests.{tested, testedAt};
+ghost use Rattle.asking.specs.Promise.{Tested};
 
 // The tests that need no history.
 pub enum Test {

@@ -1,10 +1,10 @@
 -- `is_superko`: what is told settles to the test, by the records where they decide.
 use mathlib.Core.Path.{_∙_}
 use Rattle.checking.specs.Laws.Near.{read-shows}
-use Rattle.checking.specs.Laws.Tests.{superko-known, superko-again, superko-repeating}
+use Rattle.asking.specs.Laws.Tests.{superko-known, superko-again, superko-repeating}
 use borrow.Author.Needs.{needs}
-use Rattle.checking.proofs.ask_superko.is_superko.Statement.{statement}
-use Rattle.checking.proofs.ask_superko.is_superko.Tie as tie
+use Rattle.asking.proofs.superko.is_superko.Statement.{statement}
+use Rattle.asking.proofs.superko.is_superko.Tie as tie
 
 seen-of-requires : tie.Need-seen-of-requires
 seen-of-requires c κs = search needs

@@ -6,8 +6,8 @@ use Rattle.rules.specs.Points.{index}
 use Rattle.rules.specs.Tests.{captures, suicide, ko, eye, superko}
 use Rattle.rules.specs.Game.{Game}
 use Rattle.rules.specs.Calls.{taken, resulting}
-use Rattle.checking.specs.declared.ask.Test.{Test}
-use Rattle.checking.specs.declared.ask.Test.the-variants as tests
+use Rattle.asking.specs.declared.tests.Test.{Test}
+use Rattle.asking.specs.declared.tests.Test.the-variants as tests
 
 -- an empty point that passes
 unfoldable pub atEmpty : Game → (ℕ → Bool) → ℕ → ℕ → Bool

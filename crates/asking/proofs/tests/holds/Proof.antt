@@ -1,11 +1,11 @@
 -- `holds`: each test on what stands near is the rules' test.
 use mathlib.Core.Path.{sym, ap, _∙_}
 use Rattle.game.specs.View.{viewOf}
-use Rattle.checking.specs.Tests.{tested}
+use Rattle.asking.specs.Tests.{tested}
 use Rattle.checking.specs.Laws.Near.{read-shows, own-captures, own-suicide, its-ko, own-eye}
 use borrow.Author.Needs.{needs}
-use Rattle.checking.proofs.ask.holds.Statement.{statement}
-use Rattle.checking.proofs.ask.holds.Tie as tie
+use Rattle.asking.proofs.tests.holds.Statement.{statement}
+use Rattle.asking.proofs.tests.holds.Tie as tie
 
 player-of-requires : tie.Need-player-of-requires
 player-of-requires c κs = search needs

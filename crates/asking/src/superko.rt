@@ -1,10 +1,10 @@
 // The superko test by itself, the crate's `check_super_ko`. Where a stone stands it answers no.
-use crate::point::is_ko_point;
-use crate::spot::Spot;
-use crate::spot::spot_at;
-use crate::superko::Told;
-use crate::superko::repeats;
-use crate::superko::superko_told;
+use checking::point::is_ko_point;
+use checking::spot::Spot;
+use checking::spot::spot_at;
+use checking::superko::Told;
+use checking::superko::repeats;
+use checking::superko::superko_told;
 use game::calls::player_of;
 use game::judge::judge_with;
 use game::state::Game;
@@ -18,9 +18,9 @@ ghost use mathlib.Core.Path.{_≡_};
 ghost use lib.ListN.{length};
 ghost use Rattle.rules.specs.Calls.{offBoard};
 ghost use Rattle.game.specs.View.{viewOf, TrueState, RoomIn};
 ghost use Rattle.checking.specs.Asking.{Asking};
-ghost use Rattle.checking.specs.Tests.{superkoOf, superkoAt};
-ghost use Rattle.checking.specs.Promise.{Tested};
+ghost use Rattle.asking.specs.Tests.{superkoOf, superkoAt};
+ghost use Rattle.asking.specs.Promise.{Tested};
 
 // At an empty point of the board.
 fn is_superko(game: Game, history: &[u8], point: usize) -> bool

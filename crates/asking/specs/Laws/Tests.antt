@@ -1,7 +1,6 @@
 -- Laws of Tests: what a question answers by the spot where the stone would go, and the superko test by what is told of it.
 use mathlib.Core.Bool.{Bool, true, false, not, _&&_}
 use mathlib.Core.List.{List}
-use mathlib.Core.Logic.{_⊎_, ⊎-elim}
 use mathlib.Core.Path.{_≡_, refl, sym, ap, ap₂, _∙_}
 use Prim.Native.Nat.{ℕ}
 use lib.Dec.{eqb}
@@ -12,7 +11,7 @@ use Rattle.rules.specs.Records.{recorded}
 use Rattle.rules.specs.Tests.{ko, captures, superko}
 use Rattle.rules.specs.Answers.{SuperKo, number, refuse}
 use Rattle.rules.specs.Calls.{offBoard, taken, resulting}
-use Rattle.rules.specs.Laws.Lists.{decided, not-both}
+use Rattle.rules.specs.Laws.Lists.{not-both}
 use Rattle.board.specs.Board.{coloursOf}
 use Rattle.board.specs.True.{TrueBoard}
 use Rattle.legality.specs.declared.near.Near.{Near}
@@ -23,18 +22,18 @@ use Rattle.queries.specs.declared.goban.TestAnswer.{TestAnswer}
 use Rattle.queries.specs.Goban.{noTest}
 use Rattle.game.specs.declared.state.Game.{Game}
 use Rattle.game.specs.View.{turnOf, koOf, viewOf}
 use Rattle.checking.specs.declared.spot.Spot.{Spot}
 use Rattle.checking.specs.declared.spot.Spot.the-variants.{Off, Stone, Empty}
 use Rattle.checking.specs.declared.superko.Told.{Told}
 use Rattle.checking.specs.declared.superko.Told.the-variants.{Answer, IfRecorded}
 use Rattle.checking.specs.Spot.{spotOf}
 use Rattle.checking.specs.Told.{atKo, superkoTold, settled, undecided}
 use Rattle.checking.specs.Asking.{Asking, Repeating}
-use Rattle.checking.specs.Tests.{atEmpty, superkoOf}
-use Rattle.checking.specs.Promise.{Tested}
+use Rattle.asking.specs.Tests.{atEmpty, superkoOf}
+use Rattle.asking.specs.Promise.{Tested}
 use Rattle.checking.specs.Laws.Spot.{Free, off-outside, stone-taken, empty-free}
 use Rattle.checking.specs.Laws.Near.{its-ko, own-captures}
 use Rattle.checking.specs.Laws.Told.{superko-settled, superko-captures}
 
 -- ---- What is answered
 
@@ -66,14 +65,6 @@ module _ {is : Type 0} (t : is) (g : Game) (test : ℕ → Bool) (r c : ℕ) (s 
       let free : Free (g .board .height) (g .board .width) (coloursOf (g .board)) r c p = empty-free _ _ _ r c p (sym found ∙ e) in
       let same = holds ∙ ap₂ (λ (b : Bool) (q : ℕ). not (not b) && test q) (sym (free .vacant)) (free .here) in
       record { damaged = λ n. absurd (n t); beyond = λ _ off. absurd (not-both off (free .on)); told = λ _ _. λ i. record { answer = 0; holds = same i } }
-
--- a promise leaves nothing free
-pub tested-unique : {is : Type 0} {off holds : Bool} {r r′ : TestAnswer} → is ⊎ ¬ is → Tested is off holds r → Tested is off holds r′ → r ≡ r′
-tested-unique {off = off} way p q =
-    ⊎-elim
-    (λ t. ⊎-elim (λ e. p .beyond t e ∙ sym (q .beyond t e)) (λ e. p .told t e ∙ sym (q .told t e)) (decided off))
-    (λ n. p .damaged n ∙ sym (q .damaged n))
-    way
 
 -- ---- The superko test
 

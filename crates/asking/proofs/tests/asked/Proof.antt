@@ -2,11 +2,11 @@
 use borrow.Author.Tests.{not-true, not-false}
 use Rattle.rules.specs.Laws.Lists.{not-both}
 use Rattle.game.specs.View.{TrueState}
-use Rattle.checking.specs.Tests.{testedAt}
-use Rattle.checking.specs.Laws.Tests.{tested-damaged, tested-off, tested-stone, tested-empty}
+use Rattle.asking.specs.Tests.{testedAt}
+use Rattle.asking.specs.Laws.Tests.{tested-damaged, tested-off, tested-stone, tested-empty}
 use borrow.Author.Needs.{needs}
-use Rattle.checking.proofs.ask.asked.Statement.{statement}
-use Rattle.checking.proofs.ask.asked.Tie as tie
+use Rattle.asking.proofs.tests.asked.Statement.{statement}
+use Rattle.asking.proofs.tests.asked.Tie as tie
 
 -- the state is a true one
 good : (c : tie.Else1) → TrueState (c .before .before .args .game)

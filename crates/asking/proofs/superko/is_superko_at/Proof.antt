@@ -3,12 +3,12 @@ use lib.ListN.{length}
 use borrow.Author.Tests.{not-true, not-false}
 use Rattle.rules.specs.Laws.Lists.{not-both}
 use Rattle.game.specs.View.{TrueState, RoomIn}
-use Rattle.checking.specs.Tests.{superkoAt}
+use Rattle.asking.specs.Tests.{superkoAt}
 use Rattle.checking.specs.Laws.Asking.{empty-asking}
-use Rattle.checking.specs.Laws.Tests.{tested-damaged, tested-off, tested-stone, tested-empty}
+use Rattle.asking.specs.Laws.Tests.{tested-damaged, tested-off, tested-stone, tested-empty}
 use borrow.Author.Needs.{needs}
-use Rattle.checking.proofs.ask_superko.is_superko_at.Statement.{statement}
-use Rattle.checking.proofs.ask_superko.is_superko_at.Tie as tie
+use Rattle.asking.proofs.superko.is_superko_at.Statement.{statement}
+use Rattle.asking.proofs.superko.is_superko_at.Tie as tie
 
 -- the state is a true one
 good : (c : tie.Else1) → let a = c .before .before .before .args in TrueState (a .game) × RoomIn (a .game) (length (a .history .now))
