@@ -97,10 +97,10 @@ fn fill(game: Game, history: &[u8], flags: u8, buffer: &mut [u16]) -> usize
     let colours = seen.colours;
     let liberties = seen.liberties;
     let stones = seen.stones;
-    let end = area(height, width);
+    let mut left = area(height, width);
     let mut point = 0;
     let mut count = 0;
-    while point < end {
+    while 0 < left {
         let answer = told_at(
             &colours,
             &liberties,
@@ -117,6 +117,7 @@ fn fill(game: Game, history: &[u8], flags: u8, buffer: &mut [u16]) -> usize
         if is_undecided(answer) {
             legal = !repeats(game, history, point);
         }
+        left -= 1;
         if legal {
             buffer[count] = point as u16;
             count += 1;

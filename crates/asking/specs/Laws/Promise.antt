@@ -1,5 +1,5 @@
 -- Laws of Promise: the board that is shown, and that the promises leave nothing free: two results that meet one are equal.
-use mathlib.Core.Bool.{Bool, true, false}
+use mathlib.Core.Bool.{Bool}
 use mathlib.Core.Logic.{_⊎_, ⊎-elim}
 use mathlib.Core.Path.{_≡_, refl, sym, _∙_}
 use Rattle.rules.specs.Answers.{number}

@@ -1,7 +1,7 @@
 -- Laws of Asking: a capture may be laid whatever the flags forbid, and what the tests tell of what stands near is the rules' answer.
 use mathlib.Core.Bool.{Bool, true, false, not, _&&_}
 use mathlib.Core.List.{List}
-use mathlib.Core.Path.{_≡_, refl, sym, ap, _∙_, subst}
+use mathlib.Core.Path.{_≡_, sym, ap, _∙_, subst}
 use Prim.Native.Nat.{ℕ}
 use native.Mathlib.Omega.{arith}
 use lib.Dec.{eqb}
@@ -12,8 +12,7 @@ use Rattle.rules.specs.Colours.{empty, other, at}
 use Rattle.rules.specs.Records.{recorded}
 use Rattle.rules.specs.Flags.{SUICIDE, forbids}
 use Rattle.rules.specs.Tests.{inAtari, suicide, ko, eye, captures, superko}
-use Rattle.rules.specs.Game.{Player}
-use Rattle.rules.specs.Answers.{number, OffBoard, PointNotEmpty}
+use Rattle.rules.specs.Answers.{OffBoard, PointNotEmpty, number}
 use Rattle.rules.specs.Calls.{offBoard, taken, resulting, forbiddenAnswer, pointAnswer}
 use Rattle.rules.specs.Laws.Lists.{and-right, not-yes, not-both}
 use Rattle.board.specs.Board.{coloursOf}

@@ -12,7 +12,8 @@ use Rattle.rules.specs.Game as rules
 use Rattle.rules.specs.Laws.Lists.{both-ways}
 use Rattle.listing.specs.declared.list.Listed.{Listed}
 use Rattle.listing.specs.Lists.{Left}
-use Rattle.listing.specs.Laws.Answers.{refused-then, passed-then, left-refused}
+use Rattle.rules.specs.Laws.Answers.{refused-then, passed-then}
+use Rattle.listing.specs.Laws.Answers.{left-refused}
 use Rattle.listing.specs.Laws.Unique.{left-unique}
 use Rattle.checking.specs.Promise.{Checked, Filled}
 

@@ -14,7 +14,6 @@ use Rattle.rules.specs.Calls.{outside}
 use Rattle.rules.specs.Laws.Lists.{or-none-left, or-none-right}
 use Rattle.rules.specs.Laws.Points.{index-on, index-row-column, row-on, column-on}
 use Rattle.rules.specs.Laws.Calls.{off-not-on}
-use Rattle.checking.specs.declared.spot.Spot.{Spot}
 use Rattle.checking.specs.declared.spot.Spot.the-variants.{Off, Stone, Empty}
 use Rattle.checking.specs.Spot.{spotOf}
 

@@ -1,7 +1,7 @@
 -- Laws of Seen: what a board shows has a place for each point, and what of that stands beside a point is what the rules say.
-use mathlib.Core.Path.{_≡_, refl, ap, ap₂, _∙_}
+use mathlib.Core.Path.{_≡_, refl, ap, ap₂}
 use mathlib.Core.List.{List, [], _∷_, map, List·Memᴰ, List·Memᴰ·head, List·Memᴰ·tail}
-use Prim.Native.Nat.{ℕ, _≤_, _<_}
+use Prim.Native.Nat.{ℕ, _≤_}
 use native.Mathlib.Omega.{arith}
 use lib.ListN.{length, getD}
 use Rattle.rules.specs.Sizes.{maxArea}
@@ -11,8 +11,6 @@ use Rattle.rules.specs.Points.{area, neighbours}
 use Rattle.rules.specs.Chain.{size, liberties}
 use Rattle.rules.specs.Laws.Lists.{length-tabulate, getD-tabulate-zero}
 use Rattle.rules.specs.Laws.Points.{neighbours-on}
-use Rattle.legality.specs.declared.near.Near.{Near}
-use Rattle.legality.specs.declared.look.Seen.{Seen}
 use Rattle.legality.specs.Near.{inFour, ofStone, nearOf}
 use Rattle.legality.specs.Seen.{seenOf, Shows, nearIn}
 

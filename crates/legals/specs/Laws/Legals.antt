@@ -18,7 +18,8 @@ use Rattle.rules.specs.Calls.{flagsAnswer, listAnswer, resulting, pointAnswer}
 use Rattle.rules.specs.Laws.Lists.{decided, not-both}
 use Rattle.rules.specs.Laws.Calls.{then-second}
 use Rattle.listing.specs.Lists.{lengthAnswer}
-use Rattle.listing.specs.Laws.Answers.{accepts-zero, length-enough}
+use Rattle.rules.specs.Laws.Answers.{accepts-zero}
+use Rattle.listing.specs.Laws.Answers.{length-enough}
 use Rattle.board.specs.Board.{coloursOf}
 use Rattle.board.specs.True.{TrueBoard}
 use Rattle.history.specs.Packing.{onLargest}

@@ -1,6 +1,5 @@
 -- `forbidden_answer`: what the tests tell settles to the answer, by the records where they decide.
-use mathlib.Core.Bool.{Bool}
-use mathlib.Core.Path.{_≡_, refl, sym, ap, ap₂, _∙_}
+use mathlib.Core.Path.{_≡_, sym, ap, ap₂, _∙_}
 use borrow.Author.Needs.{needs}
 use Rattle.rules.specs.Records.{recorded}
 use Rattle.rules.specs.Answers.{number, refuse}

@@ -1,7 +1,6 @@
 -- `spot_at`: off the board, or what owns the point says whether a stone stands there.
-use mathlib.Core.Path.{_≡_, refl, sym, _∙_}
+use mathlib.Core.Path.{refl, sym, _∙_}
 use native.Mathlib.Omega.{arith}
-use Rattle.rules.specs.Sizes.{slots}
 use Rattle.board.specs.Laws.Views.{owned-stone}
 use Rattle.queries.specs.Laws.Owner.{found-under, found-nobody, found-slot}
 use Rattle.checking.specs.Laws.Spot.{spot-off, spot-empty, spot-stone}

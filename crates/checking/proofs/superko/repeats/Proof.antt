@@ -1,6 +1,5 @@
 -- `repeats`: the board that is laid is the rules' resulting one, so its record is the one that the rules look for.
-use mathlib.Core.List.{List}
-use mathlib.Core.Path.{_≡_, ap, _∙_}
+use mathlib.Core.Path.{ap, _∙_}
 use Prim.Native.Nat.{ℕ}
 use lib.ListN.{length}
 use borrow.Author.Needs.{needs}

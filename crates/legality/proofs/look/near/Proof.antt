@@ -9,7 +9,6 @@ use Rattle.rules.specs.Sizes.{maxArea}
 use Rattle.rules.specs.Points.{area, neighbours}
 use Rattle.points.specs.declared.coord.Around.{Around}
 use Rattle.points.specs.Around.{Holds}
-use Rattle.legality.specs.declared.near.Near.{Near}
 use Rattle.legality.specs.Near.{inFour}
 use Rattle.legality.specs.Seen.{nearIn}
 use Rattle.legality.specs.Laws.Lists.{map-more, inFour-more}

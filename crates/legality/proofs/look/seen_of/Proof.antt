@@ -16,7 +16,6 @@ use Rattle.rules.specs.Laws.Lists.{getD-default, length-tabulate, getD-tabulate
 use Rattle.chains.specs.Group.{freeChain}
 use Rattle.board.specs.declared.goban.Board.{Board}
 use Rattle.board.specs.Board.{owner, chainIn, coloursOf}
-use Rattle.board.specs.True.{TrueBoard}
 use Rattle.legality.specs.declared.near.Beside.{Beside}
 use Rattle.legality.specs.Near.{ofStone, chainSeen}
 use Rattle.legality.specs.Seen.{seenOf}

@@ -1,9 +1,9 @@
--- `fill`: after some turns the legal points among the first stand at the front. The measure is what is left of the points.
+-- `fill`: after some turns the legal points among the first stand at the front. The measure is how many points are left.
 use mathlib.Core.Bool.{Bool, not}
 use mathlib.Core.List.{List}
 use mathlib.Core.Logic.{⊎-elim}
 use mathlib.Core.Path.{_≡_, refl, sym, ap, _∙_, subst}
-use Prim.Native.Nat.{ℕ, _≤_, _<_, _-_}
+use Prim.Native.Nat.{ℕ, _+_, _≤_, _<_}
 use native.Mathlib.Omega.{arith}
 use borrow.Author.Needs.{needs}
 use lib.ListN.{length, length-set}
@@ -27,11 +27,11 @@ abbrev legal-at : Game → List ℕ → ℕ → ℕ → Bool
 legal-at g bytes flags p = accepts (pointAnswer (viewOf g) bytes flags (row (g .board .width) p) (column (g .board .width) p))
 
 abbrev Inv-loop : tie.InvT-loop
-Inv-loop game history flags buffer₀ height width colour colours liberties stones end point₀ count₀ buffer point count =
-    (point ≤ end) × (count ≤ point) × (length buffer ≡ length buffer₀) × Front (pick (legal-at game history flags) (below point)) buffer₀ count buffer
+Inv-loop game history flags buffer₀ height width colour colours liberties stones left₀ point₀ count₀ buffer left point count =
+    (point + left ≡ left₀) × (count ≤ point) × (length buffer ≡ length buffer₀) × Front (pick (legal-at game history flags) (below point)) buffer₀ count buffer
 
 abbrev μ-loop : tie.MeasureT-loop
-μ-loop game history flags buffer₀ height width colour colours liberties stones end point₀ count₀ buffer point count = end - point
+μ-loop game history flags buffer₀ height width colour colours liberties stones left₀ point₀ count₀ buffer left point count = left
 
 -- the places of the buffer and the numbers of the points
 fits : (c : tie.After-area Inv-loop μ-loop) → let start = c .before .before .before .before .before .before .before .before .before in
@@ -43,7 +43,7 @@ on-board : (c : tie.In-loop Inv-loop μ-loop)
     → let point = c .before .loop .point in
     let b = c .before .before .before .before .before .before .before .before .before .before .before .args .game .board in
     point < area (b .height) (b .width)
-on-board c = omega (arith, c .before .before .area .ensures, c .loop-test .taken)
+on-board c = omega (arith, c .before .loop .inv .0, c .before .before .area .ensures, c .loop-test .taken)
 
 -- what the code finds is what the rules say of the point
 found : (c : tie.Joined1 Inv-loop μ-loop)
@@ -107,45 +107,48 @@ repeats-requires c κs =
     legal-repeating (start .args .game) (start .pre .state .board) (start .args .flags) _ (on-board test) _ (seen .seen-of .ensures) _ (player .player-of .ensures)
     _ (told .told-at .ensures) _ (start .pre .state) (start .pre .room) (sym (undecided .is-undecided .ensures) ∙ c .if1 .taken)
 
+sub-left : tie.Need-sub-left Inv-loop μ-loop
+sub-left c = omega (arith, c .before .before .before .before .before .before .before .loop-test .taken)
+
 cast-buffer : tie.Need-cast-buffer Inv-loop μ-loop
-cast-buffer c = omega (arith, fits (c .before .before .before .before .before .before .before .before .before .before), c .before .before .before .before .before .before .before .before .loop-test .taken)
+cast-buffer c = omega (arith, fits (c .before .before .before .before .before .before .before .before .before .before), c .before .before .before .before .before .before .before .before .loop-test .taken, c .before .before .before .before .before .before .before .before .before .loop .inv .0)
 
 mul-buffer : tie.Need-mul-buffer Inv-loop μ-loop
-mul-buffer c = omega (arith, fits (c .before .before .before .before .before .before .before .before .before .before), c .before .before .before .before .before .before .before .before .loop-test .taken)
+mul-buffer c = omega (arith, fits (c .before .before .before .before .before .before .before .before .before .before), c .before .before .before .before .before .before .before .before .loop-test .taken, c .before .before .before .before .before .before .before .before .before .loop .inv .0)
 
 slice-write-buffer : tie.Need-slice-write-buffer Inv-loop μ-loop
-slice-write-buffer c = omega (arith, fits (c .before .before .before .before .before .before .before .before .before .before), c .before .before .before .before .before .before .before .before .loop-test .taken)
+slice-write-buffer c = omega (arith, fits (c .before .before .before .before .before .before .before .before .before .before), c .before .before .before .before .before .before .before .before .loop-test .taken, c .before .before .before .before .before .before .before .before .before .loop .inv .0)
 
 add-count : tie.Need-add-count Inv-loop μ-loop
-add-count c = omega (arith, fits (c .before .before .before .before .before .before .before .before .before .before), c .before .before .before .before .before .before .before .before .loop-test .taken)
+add-count c = omega (arith, fits (c .before .before .before .before .before .before .before .before .before .before), c .before .before .before .before .before .before .before .before .loop-test .taken, c .before .before .before .before .before .before .before .before .before .loop .inv .0)
 
 add-point : tie.Need-add-point Inv-loop μ-loop
-add-point c = omega (arith, fits (c .before .before .before .before .before .before .before .before .before .before), c .before .before .before .before .before .before .before .before .loop-test .taken)
+add-point c = omega (arith, fits (c .before .before .before .before .before .before .before .before .before .before), c .before .before .before .before .before .before .before .before .loop-test .taken, c .before .before .before .before .before .before .before .before .before .loop .inv .0)
 
 loop-less : tie.Need-loop-less Inv-loop μ-loop
-loop-less c = omega (arith, c .before .before .before .before .before .before .before .before .loop-test .taken)
+loop-less c = omega (arith, c .before .before .before .before .before .before .before .before .loop-test .taken, c .before .before .before .before .before .before .before .before .before .loop .inv .0)
 
 loop-again : tie.Need-loop-again Inv-loop μ-loop
 loop-again c =
     let test = c .before .before .before .before .before .before .before .before in
     let loop = test .before .loop in (
-      omega (arith, test .loop-test .taken),
+      omega (arith, test .loop-test .taken, loop .inv .0),
       omega arith,
       length-set (loop .buffer) (loop .count) (loop .point) ∙ loop .inv .2,
-      front-pick _ (loop .inv .3) (sym (found (c .before)) ∙ c .if2 .taken) (omega (arith, fits (test .before .before), test .loop-test .taken)),
+      front-pick _ (loop .inv .3) (sym (found (c .before)) ∙ c .if2 .taken) (omega (arith, fits (test .before .before), test .loop-test .taken, loop .inv .0)),
     )
 
 add-point-2 : tie.Need-add-point-2 Inv-loop μ-loop
-add-point-2 c = omega (arith, fits (c .before .before .before .before .before .before .before .before .before .before), c .before .before .before .before .before .before .before .before .loop-test .taken)
+add-point-2 c = omega (arith, fits (c .before .before .before .before .before .before .before .before .before .before), c .before .before .before .before .before .before .before .before .loop-test .taken, c .before .before .before .before .before .before .before .before .before .loop .inv .0)
 
 loop-less-2 : tie.Need-loop-less-2 Inv-loop μ-loop
-loop-less-2 c = omega (arith, c .before .before .before .before .before .before .before .before .loop-test .taken)
+loop-less-2 c = omega (arith, c .before .before .before .before .before .before .before .before .loop-test .taken, c .before .before .before .before .before .before .before .before .before .loop .inv .0)
 
 loop-again-2 : tie.Need-loop-again-2 Inv-loop μ-loop
 loop-again-2 c =
     let test = c .before .before .before .before .before .before .before .before in
     let loop = test .before .loop in (
-      omega (arith, test .loop-test .taken),
+      omega (arith, test .loop-test .taken, loop .inv .0),
       omega arith,
       loop .inv .2,
       front-skip _ (loop .inv .3) (sym (found (c .before)) ∙ c .if2 .left),
@@ -177,6 +180,7 @@ fill-spec =
     is-free-requires
     is-undecided-requires
     repeats-requires
+    sub-left
     cast-buffer
     mul-buffer
     slice-write-buffer
