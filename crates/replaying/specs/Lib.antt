@@ -1,3 +1,3 @@
--- A row of moves in order: what it promises.
+-- A row of moves, one after the other: what a replay promises.
 pub mod Replay
 pub mod Laws

@@ -1,4 +1,4 @@
-// Replay.
+// Replay: a lent row of moves in order, up to the first refusal.
 use crate::entry::enter;
 use game::calls::Answered;
 use game::judge::judge_with;
@@ -10,6 +10,7 @@ ghost use Rattle.rules.specs.Calls as rules;
 ghost use Rattle.game.specs.View.{viewOf, TrueState, RoomIn};
 ghost use Rattle.replaying.specs.Replay.{entriesOf, Replays};
 
+// A row and a column count only where the kind is a stone.
 pub struct Move {
     pub kind: u8,
     pub row: u8,
@@ -17,11 +18,15 @@ pub struct Move {
 }
 
 pub struct Replayed {
+    // how many were accepted
     pub entries: usize,
+    // the refusal's number, 0 if none
     pub answer: u8,
+    // the state after what was accepted
     pub game: Game,
 }
 
+// The state is judged once: each accepted entry leaves a true one. The loop copies no game: each call reads it where the last one put it.
 pub fn replay(game: Game, history: &mut [u8], moves: &[Move]) -> Replayed
     ensures { λ r. ⌜ Replays (TrueState game × RoomIn game (length (now (history .entry)))) (rules.replay (viewOf game) (now (history .entry)) (entriesOf (now (moves .entry)))) game (now (history .entry)) r (now (history .exit)) ⌝ }
 {

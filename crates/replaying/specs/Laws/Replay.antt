@@ -1,14 +1,14 @@
 -- Laws of a replay: what holds after some entries were accepted, at the first one, from one to the next, at the end and at a refusal.
 use mathlib.Core.Path.{_≡_, refl, sym, ap, _∙_, subst}
 use mathlib.Core.Bool.{true, false}
-use mathlib.Core.List.{List, [], _∷_, map}
+use mathlib.Core.List.{List, _∷_}
 use mathlib.Core.Logic.{_≢_}
-use Prim.Native.Nat.{ℕ, zero, suc, _+_, _<_, _≤_}
+use Prim.Native.Nat.{ℕ, suc, _<_}
 use native.Mathlib.Omega.{arith}
 use lib.ListN.{length, getD, drop}
 use lib.Seq.{drop-length, drop-cons}
 use borrow.Author.Tests.{eq-eqb, ne-eqb}
-use Rattle.rules.specs.Answers.{Answer, Accepted, Damaged, number, accepts}
+use Rattle.rules.specs.Answers.{Accepted, Damaged, number, accepts}
 use Rattle.rules.specs.Game as rules
 use Rattle.rules.specs.Laws.Lists.{both-ways}
 use Rattle.rules.specs.Calls.{Result, Entry, entryCall, Replayed as Said, replayFrom, replay}
