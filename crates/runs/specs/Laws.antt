@@ -1,0 +1,3 @@
+-- The work behind the statements.
+pub mod Step
+pub mod Run

@@ -1,0 +1,3 @@
+-- What holds of every run of calls.
+pub mod Runs
+pub mod Laws
