@@ -1,3 +1,6 @@
 -- The work behind the statements.
 pub mod Step
 pub mod Run
+pub mod Table
+pub mod Stone
+pub mod Orders

@@ -1,3 +1,6 @@
 -- What holds of every run of calls.
 pub mod Runs
+pub mod Holds
+pub mod Orders
 pub mod Laws
+pub mod Statements

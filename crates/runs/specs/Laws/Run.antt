@@ -6,16 +6,24 @@ use Prim.Native.Nat.{ℕ, _+_, _*_, _/_}
 use native.Mathlib.Omega.{arith}
 use lib.ListN.{length, drop}
 use Rattle.rules.specs.Sizes.{recordBytes}
-use Rattle.rules.specs.Colours.{black, white}
+use Rattle.rules.specs.Colours.{black, white, at}
+use Rattle.rules.specs.Points.{index, neighbours}
+use Rattle.rules.specs.Reach.{Move}
+use Rattle.rules.specs.Move.{coloured}
+use Rattle.rules.specs.Flags.{SUICIDE, forbids}
 use Rattle.rules.specs.Records.{capacity}
 use Rattle.rules.specs.Answers.{accepts}
 use Rattle.rules.specs.Game as rules
-use Rattle.rules.specs.Game.{freshGame}
+use Rattle.rules.specs.Game.{freshGame, stones}
 use Rattle.rules.specs.Calls.{newAnswer, newGame}
+use Rattle.board.specs.Board.{coloursOf}
 use Rattle.game.specs.declared.state.Game.{Game}
 use Rattle.game.specs.View.{viewOf, RoomIn}
-use Rattle.runs.specs.Runs.{Event, Desk, Sound, Step, Fresh, Run, start, after, turnAfter, putAfter, turnIn, putIn}
-use Rattle.runs.specs.Laws.Step.{cond-same, new-field, step-sound, step-lent, step-turn, step-black, step-white}
+use Rattle.runs.specs.Runs.{Call, Reply, Event, Desk, Sound, Step, Fresh, Run, start, after, stone, turnAfter, putAfter, turnIn, putIn}
+use Rattle.runs.specs.Laws.Step.{cond-same, new-field, step-sound, step-lent, step-history, step-turn, step-black, step-white}
+use Rattle.runs.specs.Holds.{Held, historyAfter}
+use Rattle.runs.specs.Laws.Table.{board-table}
+use Rattle.runs.specs.Laws.Stone.{step-move, step-spares}
 
 -- a field of the game at the start of a run
 fresh-field : {A : Type 0} (f : rules.Game → A) (x : A) (d : Desk) → ((h w flags : ℕ) → f (freshGame h w flags) ≡ x) → Fresh d → f (viewOf (d .game)) ≡ x
@@ -64,3 +72,49 @@ module _ {first : Desk} (fresh : Fresh first) where
   run-white start = fresh-field (λ v. v .whitePut) 0 first (λ h w flags. refl) fresh
   run-white (after {events} {d} {d′} e run s) =
       step-white d (e .reply) d′ (run-sound run) (e .call) s ∙ ap₂ (putAfter white (e .call) (e .reply)) (run-turn run) (run-white run)
+
+  -- ---- Behind the statements
+
+  module _ {events : List Event} {d : Desk} (run : Run first events d) where
+    pub run-held : Held first d
+    unfolding Sound
+    run-held =
+        record {
+          state = run-sound run .0;
+          room = run-sound run .1;
+          table = board-table (d .game .board) (run-sound run .0 .board);
+          long = run-long run;
+          beyond = run-beyond run;
+        }
+
+    pub run-history : (call : Call) (reply : Reply) (d′ : Desk) → Step call d reply d′ → d′ .bytes ≡ historyAfter call reply d
+    run-history call reply d′ s = step-history d reply d′ (run-sound run) call s
+
+    pub run-black-kept : putIn black events ≡ stones (coloursOf (d .game .board)) black + d .game .held .black
+    unfolding Sound viewOf
+    run-black-kept = sym (run-black run) ∙ run-sound run .0 .game .blackKept
+
+    pub run-white-kept : putIn white events ≡ stones (coloursOf (d .game .board)) white + d .game .held .white
+    unfolding Sound viewOf
+    run-white-kept = sym (run-white run) ∙ run-sound run .0 .game .whiteKept
+
+    module _ (r c : ℕ) (reply : Reply) (d′ : Desk) (s : Step (stone r c) d reply d′) (ok : reply .answer ≡ 0) where
+      abbrev here : ℕ
+      here = index (d .game .board .width) r c
+
+      pub run-move :
+          Move (neighbours (d .game .board .height) (d .game .board .width)) (at (coloursOf (d .game .board))) (turnIn events) here
+          (at (coloursOf (d′ .game .board)))
+      run-move =
+          subst
+          (λ (t : ℕ). Move (neighbours (d .game .board .height) (d .game .board .width)) (at (coloursOf (d .game .board))) t here (at (coloursOf (d′ .game .board))))
+          (run-turn run) (step-move d reply d′ (run-sound run) r c s ok)
+
+      pub run-spares :
+          forbids (d .game .flags) SUICIDE ≡ true → (q : ℕ) → at (coloured (coloursOf (d .game .board)) (turnIn events) here) q ≡ turnIn events →
+          at (coloursOf (d′ .game .board)) q ≡ turnIn events
+      run-spares =
+          subst
+          (λ (t : ℕ).
+          forbids (d .game .flags) SUICIDE ≡ true → (q : ℕ) → at (coloured (coloursOf (d .game .board)) t here) q ≡ t → at (coloursOf (d′ .game .board)) q ≡ t)
+          (run-turn run) (step-spares d reply d′ (run-sound run) r c s ok)

@@ -22,8 +22,10 @@ use Rattle.rules.specs.Laws.Records.{bytesAfter-length, bytesAfter-beyond, reco
 use Rattle.game.specs.declared.state.Game.{Game}
 use Rattle.game.specs.View.{turnOf, viewOf, TrueState, RoomIn}
 use Rattle.game.specs.Promise.{Made, Called, CalledAlone}
+use Rattle.board.specs.Board.{coloursOf}
 use Rattle.runs.specs.Runs as runs
 use Rattle.runs.specs.Runs.{Call, Reply, Desk, Sound, Alone, Step, accepted, turnAfter, putAfter}
+use Rattle.runs.specs.Holds.{historyAfter}
 
 -- ---- A result of the rules
 
@@ -69,11 +71,11 @@ module _ (d : Desk) (reply : Reply) (d′ : Desk) where
   seen = viewOf (d .game)
 
   module _ (is : Sound d) where
-    handicap-field : {A : Type 0} (f : rules.Game → A) (spots : List Spot) → Step (runs.handicap spots) d reply d′ → f (viewOf (d′ .game)) ≡ cond (accepted reply) (f (handicapGame seen spots)) (f seen)
+    pub handicap-field : {A : Type 0} (f : rules.Game → A) (spots : List Spot) → Step (runs.handicap spots) d reply d′ → f (viewOf (d′ .game)) ≡ cond (accepted reply) (f (handicapGame seen spots)) (f seen)
     unfolding Sound Alone accepted handicapped
     handicap-field f spots s = alone-field (handicapAnswer seen spots) (handicapGame seen spots) f (is .0) (s .0)
 
-    stone-field :
+    pub stone-field :
         {A : Type 0} (f : rules.Game → A) (r c : ℕ) → Step (runs.stone r c) d reply d′ →
         f (viewOf (d′ .game)) ≡ cond (accepted reply) (f (stoneGame seen (d .bytes) (index (seen .width) r c))) (f seen)
     unfolding accepted stone
@@ -81,17 +83,17 @@ module _ (d : Desk) (reply : Reply) (d′ : Desk) where
         called-field (stoneAnswer seen (d .bytes) r c) (stoneGame seen (d .bytes) (index (seen .width) r c)) f
         (bytesAfter (d .bytes) (seen .records) (seen .colours)) is s
 
-    pass-field : {A : Type 0} (f : rules.Game → A) → Step runs.pass d reply d′ → f (viewOf (d′ .game)) ≡ cond (accepted reply) (f (passGame seen)) (f seen)
+    pub pass-field : {A : Type 0} (f : rules.Game → A) → Step runs.pass d reply d′ → f (viewOf (d′ .game)) ≡ cond (accepted reply) (f (passGame seen)) (f seen)
     unfolding Sound Alone accepted pass
     pass-field f s = alone-field (pauseAnswer seen) (passGame seen) f (is .0) (s .0)
 
-    resign-field :
+    pub resign-field :
         {A : Type 0} (f : rules.Game → A) (player : ℕ) → Step (runs.resign player) d reply d′ →
         f (viewOf (d′ .game)) ≡ cond (accepted reply) (f (resignGame seen (turnOf player))) (f seen)
     unfolding Sound Alone accepted resign
     resign-field f player s = alone-field (pauseAnswer seen) (resignGame seen (turnOf player)) f (is .0) (s .0)
 
-    resume-field : {A : Type 0} (f : rules.Game → A) → Step runs.resume d reply d′ → f (viewOf (d′ .game)) ≡ cond (accepted reply) (f (resumeGame seen)) (f seen)
+    pub resume-field : {A : Type 0} (f : rules.Game → A) → Step runs.resume d reply d′ → f (viewOf (d′ .game)) ≡ cond (accepted reply) (f (resumeGame seen)) (f seen)
     unfolding Sound Alone accepted resume
     resume-field f s = alone-field Accepted (resumeGame seen) f (is .0) (s .0)
 
@@ -201,3 +203,13 @@ module _ (d : Desk) (reply : Reply) (d′ : Desk) where
       step-true call s,
       subst (λ (n : ℕ). d′ .game .records ≤ n / recordBytes) (sym (step-lent call s .long)) (step-lent call s .room),
     )
+
+    pub step-history : (call : Call) → Step call d reply d′ → d′ .bytes ≡ historyAfter call reply d
+    unfolding Alone accepted stone result accepts viewOf
+    step-history (runs.newGame h w flags) s = s .1
+    step-history (runs.handicap spots) s = s .1
+    step-history (runs.stone r c) s =
+        s .lent is ∙ ap (λ (n : ℕ). cond (eqb n 0) (bytesAfter (d .bytes) (d .game .records) (coloursOf (d .game .board))) (d .bytes)) (sym (s .answered is))
+    step-history runs.pass s = s .1
+    step-history (runs.resign player) s = s .1
+    step-history runs.resume s = s .1
