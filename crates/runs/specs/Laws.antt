@@ -4,3 +4,4 @@ pub mod Run
 pub mod Table
 pub mod Stone
 pub mod Orders
+pub mod Exactly

@@ -18,6 +18,9 @@ use Rattle.rules.specs.Answers.{Answer, Accepted, BadSize, BadFlags, GamePaused
 use Rattle.rules.specs.Answers.{HistoryFull, NotAtStart, NoLiberty, BadLength, BadColour, BadKind, number}
 use Rattle.rules.specs.Game.{Game}
 use Rattle.rules.specs.Calls.{sideOk, paused, outside, offBoard, taken, resulting, Spot, choked, layBlack, Entry}
+use Rattle.game.specs.View.{viewOf, TrueState}
+use Rattle.runs.specs.Runs as runs
+use Rattle.runs.specs.Runs.{Call, Desk, Sound}
 
 -- ---- Rows and the first that holds
 
@@ -107,3 +110,22 @@ abbrev pub entryRows : Game → List ℕ → Entry → List Row
 entryRows g bytes e =
     row BadKind (ltb 4 (e .kind))
     ∷ cond (eqb (e .kind) 0) (stoneRows g bytes (e .row) (e .column)) (cond (eqb (e .kind) 4) [] (pauseRows g))
+
+-- ---- The calls of a run
+
+-- what a call asks of the desk before all its tests: where it does not hold, the answer is 3
+abbrev pub Asks : Call → Desk → Type 0
+Asks (runs.newGame h w flags) d = Unit
+Asks (runs.handicap spots) d = TrueState (d .game)
+Asks (runs.stone r c) d = Sound d
+Asks runs.pass d = TrueState (d .game)
+Asks (runs.resign player) d = TrueState (d .game)
+Asks runs.resume d = TrueState (d .game)
+
+abbrev pub rowsOf : Call → Desk → List Row
+rowsOf (runs.newGame h w flags) d = newRows h w flags
+rowsOf (runs.handicap spots) d = handicapRows (viewOf (d .game)) spots
+rowsOf (runs.stone r c) d = stoneRows (viewOf (d .game)) (d .bytes) r c
+rowsOf runs.pass d = pauseRows (viewOf (d .game))
+rowsOf (runs.resign player) d = pauseRows (viewOf (d .game))
+rowsOf runs.resume d = []

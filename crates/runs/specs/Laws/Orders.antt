@@ -3,22 +3,24 @@ use mathlib.Core.Path.{_≡_, refl, sym, ap, ap₂, _∙_}
 use mathlib.Core.Bool.{Bool, true, false, cond, not, _&&_}
 use mathlib.Core.List.{List, [], _∷_, _++_}
 use mathlib.Core.Logic.{_≢_, _↔_, ⊎-elim}
-use Prim.Native.Nat.{ℕ, zero, suc}
+use Prim.Native.Nat.{ℕ, _≤_}
 use native.Mathlib.Omega.{arith}
 use lib.Dec.{eqb, ltb, leb}
-use borrow.Author.Tests.{not-true}
+use borrow.Author.Tests.{not-true, eqb-true, eqb-false, ne-eqb, le-ltb, lt-ltb}
+use Rattle.rules.specs.Sizes.{maxStones}
 use Rattle.rules.specs.Lists.{all}
 use Rattle.rules.specs.Colours.{black, empty, at}
 use Rattle.rules.specs.Points.{index}
 use Rattle.rules.specs.Move.{coloured}
+use Rattle.rules.specs.Records.{full}
 use Rattle.rules.specs.Answers.{Answer, Accepted, Damaged, BadSize, BadFlags, GamePaused, OffBoard, PointNotEmpty, Suicide, Ko, SuperKo, FillEye, MoveLimit}
 use Rattle.rules.specs.Answers.{HistoryFull, NotAtStart, NoLiberty, BadLength, BadColour, BadKind, number, accepts, refuse, _then_}
 use Rattle.rules.specs.Game.{Game}
 use Rattle.rules.specs.Calls.{sizeAnswer, flagsAnswer, newAnswer, outside, forbiddenAnswer, pointAnswer, checkAnswer, stoneAnswer, pauseAnswer, Spot, spotsAnswer, layAnswer}
-use Rattle.rules.specs.Calls.{handicapAnswer, boardAnswer, listAnswer}
+use Rattle.rules.specs.Calls.{result, stone, pass, resign, resume, handicapAnswer, boardAnswer, listAnswer, choked, layBlack, Entry, entryCall}
 use Rattle.rules.specs.Laws.Lists.{decided, not-both, and-left, and-right, and-both}
 use Rattle.runs.specs.Orders.{Row, row, firstOf, First, clear, this, later}
-use Rattle.runs.specs.Orders.{newRows, forbiddenRows, pointRows, checkRows, stoneRows, pauseRows, spotRows, handicapRows, boardRows, listRows}
+use Rattle.runs.specs.Orders.{newRows, forbiddenRows, pointRows, checkRows, stoneRows, pauseRows, spotRows, handicapRows, boardRows, listRows, entryRows}
 
 -- ---- Exactly if
 
@@ -41,13 +43,13 @@ first-exactly n rows = (to-first n rows, from-first)
 
 -- ---- Rows in a row
 
--- a row that refuses, before others
-pub row-first : (a : Answer) (t : Bool) (b : Answer) (rows : List Row) → accepts a ≡ false → b ≡ firstOf rows → (refuse a t then b) ≡ firstOf (row a t ∷ rows)
+-- a test that refuses, before others
+row-first : (a : Answer) (t : Bool) {b rest : Answer} → accepts a ≡ false → b ≡ rest → (refuse a t then b) ≡ cond t a rest
 unfolding refuse _then_ accepts number
-row-first a true b rows n e = ap (λ (u : Bool). cond u b a) n
-row-first a false b rows n e = e
+row-first a true {b} n e = ap (λ (u : Bool). cond u b a) n
+row-first a false n e = e
 
-pub row-last : (a : Answer) (t : Bool) → refuse a t ≡ firstOf (row a t ∷ [])
+row-last : (a : Answer) (t : Bool) → refuse a t ≡ cond t a Accepted
 unfolding refuse
 row-last a t = refl
 
@@ -55,44 +57,45 @@ row-last a t = refl
 abbrev Refusing : List Row → Type 0
 Refusing rows = all (λ r. not (accepts (r .answer))) rows ≡ true
 
+by-test : (t : Bool) (a x y : Answer) {z : Answer} → accepts a ≡ false → (x then y) ≡ z → (cond t a x then y) ≡ cond t a z
+unfolding _then_
+by-test true a x y n e = ap (λ (u : Bool). cond u y a) n
+by-test false a x y n e = e
+
 first-append : (xs ys : List Row) → Refusing xs → (firstOf xs then firstOf ys) ≡ firstOf (xs ++ ys)
 unfolding _then_ accepts number
 first-append [] ys n = refl
-first-append (r ∷ xs) ys n = by (r .holds)
-  where
-    refuses : accepts (r .answer) ≡ false
-    refuses = not-true (accepts (r .answer)) (and-left (not (accepts (r .answer))) _ n)
-
-    by : (t : Bool) → (cond t (r .answer) (firstOf xs) then firstOf ys) ≡ cond t (r .answer) (firstOf (xs ++ ys))
-    by true = ap (λ (u : Bool). cond u (firstOf ys) (r .answer)) refuses
-    by false = first-append xs ys (and-right (not (accepts (r .answer))) _ n)
+first-append (r ∷ xs) ys n =
+    by-test (r .holds) (r .answer) (firstOf xs) (firstOf ys) (not-true (accepts (r .answer)) (and-left (not (accepts (r .answer))) _ n))
+    (first-append xs ys (and-right (not (accepts (r .answer))) _ n))
 
 -- ---- Each call
 
 pub new-order : (h w flags : ℕ) → newAnswer h w flags ≡ firstOf (newRows h w flags)
 unfolding newAnswer sizeAnswer flagsAnswer accepts number
-new-order h w flags = row-first BadSize _ _ _ refl (row-last BadFlags _)
+new-order h w flags = row-first BadSize _ refl (row-last BadFlags _)
 
 module _ (g : Game) (bytes : List ℕ) where
   pub forbidden-order : (flags p : ℕ) → forbiddenAnswer g bytes flags p ≡ firstOf (forbiddenRows g bytes flags p)
   unfolding forbiddenAnswer accepts number
   forbidden-order flags p =
-      row-first Suicide _ _ _ refl (row-first Ko _ _ _ refl (row-first FillEye _ _ _ refl (row-last SuperKo _)))
+      row-first Suicide _ refl (row-first Ko _ refl (row-first FillEye _ refl (row-last SuperKo _)))
 
   pub point-order : (flags r c : ℕ) → pointAnswer g bytes flags r c ≡ firstOf (pointRows g bytes flags r c)
   unfolding pointAnswer accepts number
-  point-order flags r c = row-first OffBoard _ _ _ refl (row-first PointNotEmpty _ _ _ refl (forbidden-order flags (index (g .width) r c)))
+  point-order flags r c = row-first OffBoard _ refl (row-first PointNotEmpty _ refl (forbidden-order flags (index (g .width) r c)))
 
   pub check-order : (flags r c : ℕ) → checkAnswer g bytes flags r c ≡ firstOf (checkRows g bytes flags r c)
   unfolding checkAnswer flagsAnswer accepts number
-  check-order flags r c = row-first BadFlags _ _ _ refl (point-order flags r c)
+  check-order flags r c = row-first BadFlags _ refl (point-order flags r c)
 
   pub stone-order : (r c : ℕ) → stoneAnswer g bytes r c ≡ firstOf (stoneRows g bytes r c)
   unfolding stoneAnswer accepts number
   stone-order r c =
-      row-first GamePaused _ _ _ refl
-      (ap₂ _then_ (point-order (g .flags) r c) (row-first MoveLimit _ _ _ refl (row-last HistoryFull _))
-      ∙ first-append (pointRows g bytes (g .flags) r c) _ refl)
+      row-first GamePaused _ refl
+      (ap₂ _then_ (point-order (g .flags) r c) (row-first MoveLimit _ refl (row-last HistoryFull _))
+      ∙ first-append (pointRows g bytes (g .flags) r c)
+      (row MoveLimit (leb maxStones (g .accepted)) ∷ row HistoryFull (full bytes (g .records) (g .colours)) ∷ []) refl)
 
 pub pause-order : (g : Game) → pauseAnswer g ≡ firstOf (pauseRows g)
 unfolding pauseAnswer
@@ -103,7 +106,7 @@ module _ (h w : ℕ) where
   unfolding accepts number
   spots-order cols [] = refl
   spots-order cols (s ∷ spots) =
-      row-first OffBoard _ _ _ refl (row-first PointNotEmpty _ _ _ refl (spots-order (coloured cols black (index w (s .row) (s .column))) spots))
+      row-first OffBoard _ refl (row-first PointNotEmpty _ refl (spots-order (coloured cols black (index w (s .row) (s .column))) spots))
 
   spots-refuse : (cols : List ℕ) (spots : List Spot) → Refusing (spotRows h w cols spots)
   unfolding accepts number
@@ -113,14 +116,46 @@ module _ (h w : ℕ) where
 pub handicap-order : (g : Game) (spots : List Spot) → handicapAnswer g spots ≡ firstOf (handicapRows g spots)
 unfolding handicapAnswer layAnswer accepts number
 handicap-order g spots =
-    row-first NotAtStart _ _ _ refl
+    row-first NotAtStart _ refl
     (ap₂ _then_ (spots-order (g .height) (g .width) (g .colours) spots) (row-last NoLiberty _)
-    ∙ first-append (spotRows (g .height) (g .width) (g .colours) spots) _ (spots-refuse (g .height) (g .width) (g .colours) spots))
+    ∙ first-append (spotRows (g .height) (g .width) (g .colours) spots)
+    (row NoLiberty (choked (g .height) (g .width) (layBlack (g .width) (g .colours) spots)) ∷ []) (spots-refuse (g .height) (g .width) (g .colours) spots))
 
 pub board-order : (h w : ℕ) (cols : List ℕ) → boardAnswer h w cols ≡ firstOf (boardRows h w cols)
 unfolding boardAnswer sizeAnswer accepts number
-board-order h w cols = row-first BadSize _ _ _ refl (row-first BadLength _ _ _ refl (row-first BadColour _ _ _ refl (row-last NoLiberty _)))
+board-order h w cols = row-first BadSize _ refl (row-first BadLength _ refl (row-first BadColour _ refl (row-last NoLiberty _)))
 
 pub list-order : (g : Game) (flags : ℕ) (buffer : List ℕ) → listAnswer g flags buffer ≡ firstOf (listRows g flags buffer)
 unfolding listAnswer flagsAnswer accepts number
-list-order g flags buffer = row-first BadFlags _ _ _ refl (row-last BadLength _)
+list-order g flags buffer = row-first BadFlags _ refl (row-last BadLength _)
+
+module _ (g : Game) (bytes : List ℕ) (e : Entry) where
+  pub entry-order : entryCall g bytes e .answer ≡ firstOf (entryRows g bytes e)
+  unfolding entryCall stone pass resign resume result
+  entry-order =
+      ⊎-elim (λ (a : eqb (e .kind) 0 ≡ true). rw (a, is-low 0 a (omega arith)) (stone-order g bytes (e .row) (e .column)))
+      (λ (n : eqb (e .kind) 0 ≡ false).
+      ⊎-elim (λ (a : eqb (e .kind) 1 ≡ true). rw (n, a, is-low 1 a (omega arith), not-last 1 a (λ z. omega arith)) (pause-order g))
+      (λ (o : eqb (e .kind) 1 ≡ false).
+      ⊎-elim (λ (a : eqb (e .kind) 2 ≡ true). rw (n, o, a, is-low 2 a (omega arith), not-last 2 a (λ z. omega arith)) (pause-order g))
+      (λ (p : eqb (e .kind) 2 ≡ false).
+      ⊎-elim (λ (a : eqb (e .kind) 3 ≡ true). rw (n, o, p, a, is-low 3 a (omega arith), not-last 3 a (λ z. omega arith)) (pause-order g))
+      (λ (q : eqb (e .kind) 3 ≡ false).
+      ⊎-elim (λ (a : eqb (e .kind) 4 ≡ true). rw (n, o, p, q, a, is-low 4 a (omega arith)))
+      (λ (r : eqb (e .kind) 4 ≡ false). rw (n, o, p, q, r, high n o p q r))
+      (decided (eqb (e .kind) 4)))
+      (decided (eqb (e .kind) 3)))
+      (decided (eqb (e .kind) 2)))
+      (decided (eqb (e .kind) 1)))
+      (decided (eqb (e .kind) 0))
+    where
+      is-low : (k : ℕ) → eqb (e .kind) k ≡ true → k ≤ 4 → ltb 4 (e .kind) ≡ false
+      is-low k a l = let same = eqb-true (e .kind) k a in le-ltb 4 (e .kind) (omega arith)
+
+      not-last : (k : ℕ) → eqb (e .kind) k ≡ true → k ≢ 4 → eqb (e .kind) 4 ≡ false
+      not-last k a n = ne-eqb (e .kind) 4 (λ z. n (sym (eqb-true (e .kind) k a) ∙ z))
+
+      high : eqb (e .kind) 0 ≡ false → eqb (e .kind) 1 ≡ false → eqb (e .kind) 2 ≡ false → eqb (e .kind) 3 ≡ false → eqb (e .kind) 4 ≡ false → ltb 4 (e .kind) ≡ true
+      high n o p q r =
+          lt-ltb 4 (e .kind)
+          (omega (arith, eqb-false (e .kind) 0 n, eqb-false (e .kind) 1 o, eqb-false (e .kind) 2 p, eqb-false (e .kind) 3 q, eqb-false (e .kind) 4 r))

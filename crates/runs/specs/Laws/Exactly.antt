@@ -1,0 +1,82 @@
+-- Laws of answers: a call answers the number of the first row that holds, and 3 exactly if what it asks of the desk does not hold.
+use mathlib.Core.Path.{_≡_, refl, sym, ap, _∙_}
+use mathlib.Core.Bool.{Bool, true, false, cond, not}
+use mathlib.Core.List.{List, [], _∷_, _++_}
+use mathlib.Core.Logic.{_≢_, _↔_}
+use Prim.Native.Nat.{ℕ}
+use native.Mathlib.Omega.{arith}
+use lib.Dec.{eqb}
+use borrow.Author.Tests.{eq-eqb}
+use Rattle.rules.specs.Lists.{all}
+use Rattle.rules.specs.Colours.{black}
+use Rattle.rules.specs.Points.{index}
+use Rattle.rules.specs.Move.{coloured}
+use Rattle.rules.specs.Answers.{Answer, Damaged, NoLiberty, number}
+use Rattle.rules.specs.Calls.{result, stone, pass, resign, resume, handicapped, Spot, choked, layBlack}
+use Rattle.rules.specs.Laws.Lists.{and-left, and-right, not-both}
+use Rattle.game.specs.View.{viewOf}
+use Rattle.runs.specs.Runs as runs
+use Rattle.runs.specs.Runs.{Call, Reply, Desk, Sound, Alone, Step}
+use Rattle.runs.specs.Orders.{Row, row, firstOf, First, clear, this, later, spotRows, rowsOf, Asks}
+use Rattle.runs.specs.Laws.Orders.{first-exactly, new-order, stone-order, pause-order, handicap-order}
+
+-- ---- No test is answered with 3
+
+abbrev Undamaged : List Row → Type 0
+Undamaged rows = all (λ r. not (eqb (number (r .answer)) (number Damaged))) rows ≡ true
+
+undamaged-first : {n : ℕ} {rows : List Row} → n ≡ number Damaged → First n rows → ¬ Undamaged rows
+unfolding number
+undamaged-first three (clear e) u = omega arith
+undamaged-first three (this {r} {rows} y e) u =
+    not-both (and-left (not (eqb (number (r .answer)) (number Damaged))) _ u) (ap not (eq-eqb (number (r .answer)) (number Damaged) (e ∙ three)))
+undamaged-first three (later {r} {rows} f o) u = undamaged-first three o (and-right (not (eqb (number (r .answer)) (number Damaged))) _ u)
+
+spots-undamaged : (h w : ℕ) (cols : List ℕ) (spots : List Spot) (rest : List Row) → Undamaged rest → Undamaged (spotRows h w cols spots ++ rest)
+unfolding number
+spots-undamaged h w cols [] rest u = u
+spots-undamaged h w cols (s ∷ spots) rest u = spots-undamaged h w (coloured cols black (index w (s .row) (s .column))) spots rest u
+
+rows-undamaged : (call : Call) (d : Desk) → Undamaged (rowsOf call d)
+unfolding number
+rows-undamaged (runs.newGame h w flags) d = refl
+rows-undamaged (runs.handicap spots) d =
+    let v = viewOf (d .game) in
+    spots-undamaged (v .height) (v .width) (v .colours) spots (row NoLiberty (choked (v .height) (v .width) (layBlack (v .width) (v .colours) spots)) ∷ []) refl
+rows-undamaged (runs.stone r c) d = refl
+rows-undamaged runs.pass d = refl
+rows-undamaged (runs.resign player) d = refl
+rows-undamaged runs.resume d = refl
+
+-- ---- The reply
+
+module _ (d : Desk) (reply : Reply) (d′ : Desk) where
+  step-answer : (call : Call) → Asks call d → Step call d reply d′ → reply .answer ≡ number (firstOf (rowsOf call d))
+  unfolding Alone result handicapped stone pass resign resume
+  step-answer (runs.newGame h w flags) is s = s .0 .answered ∙ ap number (new-order h w flags)
+  step-answer (runs.handicap spots) is s = s .0 .answered is ∙ ap number (handicap-order (viewOf (d .game)) spots)
+  step-answer (runs.stone r c) is s = s .answered is ∙ ap number (stone-order (viewOf (d .game)) (d .bytes) r c)
+  step-answer runs.pass is s = s .0 .answered is ∙ ap number (pause-order (viewOf (d .game)))
+  step-answer (runs.resign player) is s = s .0 .answered is ∙ ap number (pause-order (viewOf (d .game)))
+  step-answer runs.resume is s = s .0 .answered is
+
+  pub step-exactly : (call : Call) → Asks call d → Step call d reply d′ → (n : ℕ) → (reply .answer ≡ n) ↔ First n (rowsOf call d)
+  step-exactly call is s n = (
+    λ e. first-exactly n (rowsOf call d) .0 (sym (step-answer call is s) ∙ e),
+    λ o. step-answer call is s ∙ first-exactly n (rowsOf call d) .1 o,
+  )
+
+  step-refused : (call : Call) → Step call d reply d′ → ¬ Asks call d → reply .answer ≡ number Damaged
+  unfolding Alone
+  step-refused (runs.newGame h w flags) s n = absurd (n tt)
+  step-refused (runs.handicap spots) s n = s .0 .damaged n .0
+  step-refused (runs.stone r c) s n = s .damaged n .0
+  step-refused runs.pass s n = s .0 .damaged n .0
+  step-refused (runs.resign player) s n = s .0 .damaged n .0
+  step-refused runs.resume s n = s .0 .damaged n .0
+
+  pub step-damaged : (call : Call) → Step call d reply d′ → (reply .answer ≡ number Damaged) ↔ (¬ Asks call d)
+  step-damaged call s = (
+    λ e is. undamaged-first refl (step-exactly call is s (number Damaged) .0 e) (rows-undamaged call d),
+    step-refused call s,
+  )
