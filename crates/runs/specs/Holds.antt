@@ -11,13 +11,14 @@ use Rattle.rules.specs.Colours.{empty}
 use Rattle.rules.specs.Points.{neighbours}
 use Rattle.rules.specs.Reach.{Walk}
 use Rattle.rules.specs.Records.{capacity, bytesAfter}
+use Rattle.rules.specs.Calls as rules
 use Rattle.chains.specs.Group.{used}
 use Rattle.sets.specs.Liberties.{setOf, number}
 use Rattle.board.specs.declared.goban.Board.{Board}
 use Rattle.board.specs.Board.{owner, chainIn, colourAt, coloursOf}
 use Rattle.board.specs.True.{libertyOf}
-use Rattle.game.specs.View.{TrueState, RoomIn}
-use Rattle.runs.specs.Runs.{Call, Reply, Desk, accepted, newGame, handicap, stone, pass, resign, resume}
+use Rattle.game.specs.View.{viewOf, TrueState, RoomIn}
+use Rattle.runs.specs.Runs.{Call, Reply, Desk, accepted, newGame, handicap, stone, pass, resign, resume, replay}
 
 -- the chain table, as a reader may ask of it
 pub record ChainTable (b : Board) : Type 0 where
@@ -42,7 +43,8 @@ pub record Held (first d : Desk) : Type 0 where
   pub long : length (d .bytes) ≡ length (first .bytes)
   pub beyond : drop (recordBytes * capacity (first .bytes)) (d .bytes) ≡ drop (recordBytes * capacity (first .bytes)) (first .bytes)
 
--- the history after a call: an accepted stone makes the board before it the next record, unless it is among the records
+-- the history after a call: an accepted stone makes the board before it the next record, unless it is among the records; a replay does
+-- so for each of its accepted stones
 abbrev pub historyAfter : Call → Reply → Desk → List ℕ
 historyAfter (newGame h w flags) reply d = d .bytes
 historyAfter (handicap spots) reply d = d .bytes
@@ -50,3 +52,4 @@ historyAfter (stone r c) reply d = cond (accepted reply) (bytesAfter (d .bytes) 
 historyAfter pass reply d = d .bytes
 historyAfter (resign player) reply d = d .bytes
 historyAfter resume reply d = d .bytes
+historyAfter (replay es) reply d = rules.replay (viewOf (d .game)) (d .bytes) es .bytes

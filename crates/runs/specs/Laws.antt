@@ -1,7 +1,9 @@
 -- The work behind the statements.
+pub mod Lent
+pub mod Replay
 pub mod Step
-pub mod Run
 pub mod Table
 pub mod Stone
+pub mod Run
 pub mod Orders
 pub mod Exactly

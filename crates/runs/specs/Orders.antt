@@ -3,7 +3,7 @@
 use mathlib.Core.Path.{_≡_}
 use mathlib.Core.Bool.{Bool, true, false, cond, not, _&&_}
 use mathlib.Core.List.{List, [], _∷_, _++_}
-use Prim.Native.Nat.{ℕ}
+use Prim.Native.Nat.{ℕ, suc}
 use lib.Dec.{eqb, ltb, leb}
 use lib.ListN.{length}
 use Rattle.rules.specs.Sizes.{maxStones, maxFlags}
@@ -15,9 +15,9 @@ use Rattle.rules.specs.Flags.{KO, SUICIDE, FILLEYE, SUPERKO, forbids}
 use Rattle.rules.specs.Tests.{suicide, ko, eye, superko}
 use Rattle.rules.specs.Move.{coloured}
 use Rattle.rules.specs.Answers.{Answer, Accepted, BadSize, BadFlags, GamePaused, OffBoard, PointNotEmpty, Suicide, Ko, SuperKo, FillEye, MoveLimit}
-use Rattle.rules.specs.Answers.{HistoryFull, NotAtStart, NoLiberty, BadLength, BadColour, BadKind, number}
+use Rattle.rules.specs.Answers.{HistoryFull, NotAtStart, NoLiberty, BadLength, BadColour, BadKind, number, accepts}
 use Rattle.rules.specs.Game.{Game}
-use Rattle.rules.specs.Calls.{sideOk, paused, outside, offBoard, taken, resulting, Spot, choked, layBlack, Entry}
+use Rattle.rules.specs.Calls.{sideOk, paused, outside, offBoard, taken, resulting, Spot, choked, layBlack, Entry, entryCall}
 use Rattle.game.specs.View.{viewOf, TrueState}
 use Rattle.runs.specs.Runs as runs
 use Rattle.runs.specs.Runs.{Call, Desk, Sound}
@@ -111,6 +111,17 @@ entryRows g bytes e =
     row BadKind (ltb 4 (e .kind))
     ∷ cond (eqb (e .kind) 0) (stoneRows g bytes (e .row) (e .column)) (cond (eqb (e .kind) 4) [] (pauseRows g))
 
+-- a replay goes on to the next entry where no row of this one holds, from the state that it leaves
+abbrev pub replayRows : Game → List ℕ → List Entry → List Row
+replayRows g bytes [] = []
+replayRows g bytes (e ∷ es) = entryRows g bytes e ++ replayRows (entryCall g bytes e .game) (entryCall g bytes e .bytes) es
+
+-- how many entries it accepts
+abbrev pub acceptedOf : Game → List ℕ → List Entry → ℕ
+acceptedOf g bytes [] = 0
+acceptedOf g bytes (e ∷ es) =
+    cond (accepts (firstOf (entryRows g bytes e))) (suc (acceptedOf (entryCall g bytes e .game) (entryCall g bytes e .bytes) es)) 0
+
 -- ---- The calls of a run
 
 -- what a call asks of the desk before all its tests: where it does not hold, the answer is 3
@@ -121,6 +132,7 @@ Asks (runs.stone r c) d = Sound d
 Asks runs.pass d = TrueState (d .game)
 Asks (runs.resign player) d = TrueState (d .game)
 Asks runs.resume d = TrueState (d .game)
+Asks (runs.replay es) d = Sound d
 
 abbrev pub rowsOf : Call → Desk → List Row
 rowsOf (runs.newGame h w flags) d = newRows h w flags
@@ -129,3 +141,4 @@ rowsOf (runs.stone r c) d = stoneRows (viewOf (d .game)) (d .bytes) r c
 rowsOf runs.pass d = pauseRows (viewOf (d .game))
 rowsOf (runs.resign player) d = pauseRows (viewOf (d .game))
 rowsOf runs.resume d = []
+rowsOf (runs.replay es) d = replayRows (viewOf (d .game)) (d .bytes) es

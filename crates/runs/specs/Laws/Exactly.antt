@@ -4,6 +4,7 @@ use mathlib.Core.Bool.{Bool, true, false, cond, not}
 use mathlib.Core.List.{List, [], _∷_, _++_}
 use mathlib.Core.Logic.{_≢_, _↔_}
 use Prim.Native.Nat.{ℕ}
+use native.Mathlib.Nat.{zero-add}
 use native.Mathlib.Omega.{arith}
 use lib.Dec.{eqb}
 use borrow.Author.Tests.{eq-eqb}
@@ -12,13 +13,14 @@ use Rattle.rules.specs.Colours.{black}
 use Rattle.rules.specs.Points.{index}
 use Rattle.rules.specs.Move.{coloured}
 use Rattle.rules.specs.Answers.{Answer, Damaged, NoLiberty, number}
-use Rattle.rules.specs.Calls.{result, stone, pass, resign, resume, handicapped, Spot, choked, layBlack}
+use Rattle.rules.specs.Game.{Game}
+use Rattle.rules.specs.Calls.{result, stone, pass, resign, resume, handicapped, Spot, choked, layBlack, Entry, entryCall, replay}
 use Rattle.rules.specs.Laws.Lists.{and-left, and-right, not-both}
 use Rattle.game.specs.View.{viewOf}
 use Rattle.runs.specs.Runs as runs
 use Rattle.runs.specs.Runs.{Call, Reply, Desk, Sound, Alone, Step}
-use Rattle.runs.specs.Orders.{Row, row, firstOf, First, clear, this, later, spotRows, rowsOf, Asks}
-use Rattle.runs.specs.Laws.Orders.{first-exactly, new-order, stone-order, pause-order, handicap-order}
+use Rattle.runs.specs.Orders.{Row, row, firstOf, First, clear, this, later, spotRows, entryRows, replayRows, acceptedOf, rowsOf, Asks}
+use Rattle.runs.specs.Laws.Orders.{first-exactly, new-order, stone-order, pause-order, handicap-order, entry-all, all-append, replay-order, replay-accepted}
 
 -- ---- No test is answered with 3
 
@@ -37,6 +39,14 @@ unfolding number
 spots-undamaged h w cols [] rest u = u
 spots-undamaged h w cols (s ∷ spots) rest u = spots-undamaged h w (coloured cols black (index w (s .row) (s .column))) spots rest u
 
+replay-undamaged : (es : List Entry) (g : Game) (bytes : List ℕ) → Undamaged (replayRows g bytes es)
+unfolding number
+replay-undamaged [] g bytes = refl
+replay-undamaged (e ∷ es) g bytes =
+    all-append (λ r. not (eqb (number (r .answer)) (number Damaged))) (entryRows g bytes e) (replayRows (entryCall g bytes e .game) (entryCall g bytes e .bytes) es)
+    (entry-all g bytes e (λ r. not (eqb (number (r .answer)) (number Damaged))) (λ t. refl) refl refl)
+    (replay-undamaged es (entryCall g bytes e .game) (entryCall g bytes e .bytes))
+
 rows-undamaged : (call : Call) (d : Desk) → Undamaged (rowsOf call d)
 unfolding number
 rows-undamaged (runs.newGame h w flags) d = refl
@@ -47,18 +57,20 @@ rows-undamaged (runs.stone r c) d = refl
 rows-undamaged runs.pass d = refl
 rows-undamaged (runs.resign player) d = refl
 rows-undamaged runs.resume d = refl
+rows-undamaged (runs.replay es) d = replay-undamaged es (viewOf (d .game)) (d .bytes)
 
 -- ---- The reply
 
 module _ (d : Desk) (reply : Reply) (d′ : Desk) where
   step-answer : (call : Call) → Asks call d → Step call d reply d′ → reply .answer ≡ number (firstOf (rowsOf call d))
-  unfolding Alone result handicapped stone pass resign resume
+  unfolding Alone result handicapped stone pass resign resume replay
   step-answer (runs.newGame h w flags) is s = s .0 .answered ∙ ap number (new-order h w flags)
   step-answer (runs.handicap spots) is s = s .0 .answered is ∙ ap number (handicap-order (viewOf (d .game)) spots)
   step-answer (runs.stone r c) is s = s .answered is ∙ ap number (stone-order (viewOf (d .game)) (d .bytes) r c)
   step-answer runs.pass is s = s .0 .answered is ∙ ap number (pause-order (viewOf (d .game)))
   step-answer (runs.resign player) is s = s .0 .answered is ∙ ap number (pause-order (viewOf (d .game)))
   step-answer runs.resume is s = s .0 .answered is
+  step-answer (runs.replay es) is s = s .answered is ∙ ap number (replay-order es 0 (viewOf (d .game)) (d .bytes))
 
   pub step-exactly : (call : Call) → Asks call d → Step call d reply d′ → (n : ℕ) → (reply .answer ≡ n) ↔ First n (rowsOf call d)
   step-exactly call is s n = (
@@ -74,9 +86,27 @@ module _ (d : Desk) (reply : Reply) (d′ : Desk) where
   step-refused runs.pass s n = s .0 .damaged n .0
   step-refused (runs.resign player) s n = s .0 .damaged n .0
   step-refused runs.resume s n = s .0 .damaged n .0
+  step-refused (runs.replay es) s n = s .damaged n .1
 
   pub step-damaged : (call : Call) → Step call d reply d′ → (reply .answer ≡ number Damaged) ↔ (¬ Asks call d)
   step-damaged call s = (
     λ e is. undamaged-first refl (step-exactly call is s (number Damaged) .0 e) (rows-undamaged call d),
     step-refused call s,
   )
+
+  -- how many entries a replay accepts
+  pub step-entries : (es : List Entry) → Sound d → Step (runs.replay es) d reply d′ → reply .entries ≡ acceptedOf (viewOf (d .game)) (d .bytes) es
+  unfolding replay
+  step-entries es is s =
+      s .counted is ∙ replay-accepted es 0 (viewOf (d .game)) (d .bytes) ∙ zero-add (acceptedOf (viewOf (d .game)) (d .bytes) es)
+
+-- what a sound desk gives every call
+pub asks-sound : (call : Call) (d : Desk) → Sound d → Asks call d
+unfolding Sound
+asks-sound (runs.newGame h w flags) d is = tt
+asks-sound (runs.handicap spots) d is = is .0
+asks-sound (runs.stone r c) d is = is
+asks-sound runs.pass d is = is .0
+asks-sound (runs.resign player) d is = is .0
+asks-sound runs.resume d is = is .0
+asks-sound (runs.replay es) d is = is

@@ -3,7 +3,8 @@ use mathlib.Core.Path.{_≡_, refl, sym, ap, ap₂, _∙_}
 use mathlib.Core.Bool.{Bool, true, false, cond, not, _&&_}
 use mathlib.Core.List.{List, [], _∷_, _++_}
 use mathlib.Core.Logic.{_≢_, _↔_, ⊎-elim}
-use Prim.Native.Nat.{ℕ, _≤_}
+use Prim.Native.Nat.{ℕ, suc, _+_, _≤_}
+use native.Mathlib.Nat.{add-zero, suc-add, add-suc}
 use native.Mathlib.Omega.{arith}
 use lib.Dec.{eqb, ltb, leb}
 use borrow.Author.Tests.{not-true, eqb-true, eqb-false, ne-eqb, le-ltb, lt-ltb}
@@ -17,10 +18,12 @@ use Rattle.rules.specs.Answers.{Answer, Accepted, Damaged, BadSize, BadFlags, G
 use Rattle.rules.specs.Answers.{HistoryFull, NotAtStart, NoLiberty, BadLength, BadColour, BadKind, number, accepts, refuse, _then_}
 use Rattle.rules.specs.Game.{Game}
 use Rattle.rules.specs.Calls.{sizeAnswer, flagsAnswer, newAnswer, outside, forbiddenAnswer, pointAnswer, checkAnswer, stoneAnswer, pauseAnswer, Spot, spotsAnswer, layAnswer}
-use Rattle.rules.specs.Calls.{result, stone, pass, resign, resume, handicapAnswer, boardAnswer, listAnswer, choked, layBlack, Entry, entryCall}
+use Rattle.rules.specs.Calls.{result, stone, pass, resign, resume, handicapAnswer, boardAnswer, listAnswer, choked, layBlack, Entry, entryCall, Replayed, replayFrom}
 use Rattle.rules.specs.Laws.Lists.{decided, not-both, and-left, and-right, and-both}
+use Rattle.placing.specs.Laws.Answers.{then-refused, then-accepted}
 use Rattle.runs.specs.Orders.{Row, row, firstOf, First, clear, this, later}
-use Rattle.runs.specs.Orders.{newRows, forbiddenRows, pointRows, checkRows, stoneRows, pauseRows, spotRows, handicapRows, boardRows, listRows, entryRows}
+use Rattle.runs.specs.Orders.{newRows, forbiddenRows, pointRows, checkRows, stoneRows, pauseRows, spotRows, handicapRows, boardRows, listRows, entryRows, replayRows, acceptedOf}
+use Rattle.runs.specs.Laws.Replay.{replay-on, replay-stop}
 
 -- ---- Exactly if
 
@@ -159,3 +162,56 @@ module _ (g : Game) (bytes : List ℕ) (e : Entry) where
       high n o p q r =
           lt-ltb 4 (e .kind)
           (omega (arith, eqb-false (e .kind) 0 n, eqb-false (e .kind) 1 o, eqb-false (e .kind) 2 p, eqb-false (e .kind) 3 q, eqb-false (e .kind) 4 r))
+
+-- ---- A row of entries
+
+-- what holds of all rows of two orders holds of all rows of the one that a test chooses, and of one after the other
+all-chosen : {A : Type 0} (f : A → Bool) (t : Bool) (xs ys : List A) → all f xs ≡ true → all f ys ≡ true → all f (cond t xs ys) ≡ true
+all-chosen f true xs ys a b = a
+all-chosen f false xs ys a b = b
+
+pub all-append : {A : Type 0} (f : A → Bool) (xs ys : List A) → all f xs ≡ true → all f ys ≡ true → all f (xs ++ ys) ≡ true
+all-append f [] ys a b = b
+all-append f (x ∷ xs) ys a b = and-both (and-left (f x) (all f xs) a) (all-append f xs ys (and-right (f x) (all f xs) a) b)
+
+module _ (g : Game) (bytes : List ℕ) (e : Entry) where
+  pub entry-all :
+      (f : Row → Bool) → ((t : Bool) → f (row BadKind t) ≡ true) → all f (stoneRows g bytes (e .row) (e .column)) ≡ true → all f (pauseRows g) ≡ true →
+      all f (entryRows g bytes e) ≡ true
+  entry-all f a b c =
+      and-both (a (ltb 4 (e .kind)))
+      (all-chosen f (eqb (e .kind) 0) (stoneRows g bytes (e .row) (e .column)) (cond (eqb (e .kind) 4) [] (pauseRows g)) b
+      (all-chosen f (eqb (e .kind) 4) [] (pauseRows g) refl c))
+
+  entry-refuses : Refusing (entryRows g bytes e)
+  unfolding accepts number
+  entry-refuses = entry-all (λ r. not (accepts (r .answer))) (λ t. refl) refl refl
+
+pub replay-order : (es : List Entry) (k : ℕ) (g : Game) (bytes : List ℕ) → replayFrom k g bytes es .answer ≡ firstOf (replayRows g bytes es)
+replay-order [] k g bytes = refl
+replay-order (e ∷ es) k g bytes =
+    let rest = replayRows (entryCall g bytes e .game) (entryCall g bytes e .bytes) es in
+    ⊎-elim
+    (λ (y : accepts (entryCall g bytes e .answer) ≡ true).
+    ap (λ (r : Replayed). r .answer) (replay-on k g bytes e es y) ∙ replay-order es (suc k) (entryCall g bytes e .game) (entryCall g bytes e .bytes)
+    ∙ sym (then-accepted (firstOf (entryRows g bytes e)) (firstOf rest) (ap accepts (sym (entry-order g bytes e)) ∙ y))
+    ∙ first-append (entryRows g bytes e) rest (entry-refuses g bytes e))
+    (λ (n : accepts (entryCall g bytes e .answer) ≡ false).
+    ap (λ (r : Replayed). r .answer) (replay-stop k g bytes e es n) ∙ entry-order g bytes e
+    ∙ sym (then-refused (firstOf (entryRows g bytes e)) (firstOf rest) (ap accepts (sym (entry-order g bytes e)) ∙ n))
+    ∙ first-append (entryRows g bytes e) rest (entry-refuses g bytes e))
+    (decided (accepts (entryCall g bytes e .answer)))
+
+pub replay-accepted : (es : List Entry) (k : ℕ) (g : Game) (bytes : List ℕ) → replayFrom k g bytes es .entries ≡ k + acceptedOf g bytes es
+replay-accepted [] k g bytes = sym (add-zero k)
+replay-accepted (e ∷ es) k g bytes =
+    let more = acceptedOf (entryCall g bytes e .game) (entryCall g bytes e .bytes) es in
+    ⊎-elim
+    (λ (y : accepts (entryCall g bytes e .answer) ≡ true).
+    ap (λ (r : Replayed). r .entries) (replay-on k g bytes e es y) ∙ replay-accepted es (suc k) (entryCall g bytes e .game) (entryCall g bytes e .bytes)
+    ∙ suc-add k more ∙ sym (add-suc k more)
+    ∙ ap (λ (t : Bool). k + cond t (suc more) 0) (sym (ap accepts (sym (entry-order g bytes e)) ∙ y)))
+    (λ (n : accepts (entryCall g bytes e .answer) ≡ false).
+    ap (λ (r : Replayed). r .entries) (replay-stop k g bytes e es n) ∙ sym (add-zero k)
+    ∙ ap (λ (t : Bool). k + cond t (suc more) 0) (sym (ap accepts (sym (entry-order g bytes e)) ∙ n)))
+    (decided (accepts (entryCall g bytes e .answer)))

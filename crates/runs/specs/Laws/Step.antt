@@ -3,29 +3,30 @@ use mathlib.Core.Path.{_≡_, refl, sym, ap, _∙_, subst}
 use mathlib.Core.Bool.{Bool, true, false, cond}
 use mathlib.Core.List.{List, []}
 use mathlib.Core.Logic.{⊎-elim}
-use Prim.Native.Nat.{ℕ, _+_, _*_, _≤_, _/_}
+use Prim.Native.Nat.{ℕ, _+_, _≤_, _/_}
 use native.Mathlib.Nat.{add-zero}
 use native.Mathlib.Omega.{arith}
 use lib.Dec.{eqb}
-use lib.ListN.{length, drop}
+use lib.ListN.{length, take}
 use Rattle.rules.specs.Sizes.{recordBytes}
 use Rattle.rules.specs.Points.{index}
-use Rattle.rules.specs.Colours.{black, white, other}
-use Rattle.rules.specs.Records.{capacity, full, recordsAfter, bytesAfter}
-use Rattle.rules.specs.Answers.{Answer, Accepted, HistoryFull, number, accepts, refuse, _then_}
+use Rattle.rules.specs.Colours.{black, white}
+use Rattle.rules.specs.Records.{capacity, bytesAfter}
+use Rattle.rules.specs.Answers.{Answer, Accepted, accepts}
 use Rattle.rules.specs.Game as rules
 use Rattle.rules.specs.Game.{freshGame}
-use Rattle.rules.specs.Calls.{Spot, Result, result, stone, pass, resign, resume, handicapped, stoneAnswer, stoneGame, pauseAnswer, passGame, resignGame, resumeGame, handicapAnswer, handicapGame, oneIf, newGame, newAnswer}
+use Rattle.rules.specs.Calls.{Spot, Entry, result, stone, pass, resign, resume, handicapped, replay, stoneAnswer, stoneGame, pauseAnswer, passGame}
+use Rattle.rules.specs.Calls.{resignGame, resumeGame, handicapAnswer, handicapGame, newGame, newAnswer}
 use Rattle.rules.specs.Laws.Lists.{decided}
-use Rattle.rules.specs.Laws.Calls.{then-second, refuse-not}
-use Rattle.rules.specs.Laws.Records.{bytesAfter-length, bytesAfter-beyond, recordsAfter-fits}
+use Rattle.board.specs.Board.{coloursOf}
 use Rattle.game.specs.declared.state.Game.{Game}
 use Rattle.game.specs.View.{turnOf, viewOf, TrueState, RoomIn}
 use Rattle.game.specs.Promise.{Made, Called, CalledAlone}
-use Rattle.board.specs.Board.{coloursOf}
 use Rattle.runs.specs.Runs as runs
-use Rattle.runs.specs.Runs.{Call, Reply, Desk, Sound, Alone, Step, accepted, turnAfter, putAfter}
+use Rattle.runs.specs.Runs.{Call, Reply, Desk, Sound, Alone, Step, accepted, turnOver, putOver, turnAfter, putAfter}
 use Rattle.runs.specs.Holds.{historyAfter}
+use Rattle.runs.specs.Laws.Lent.{Lent, lent-same, stone-lent}
+use Rattle.runs.specs.Laws.Replay.{Over, replay-over}
 
 -- ---- A result of the rules
 
@@ -97,6 +98,16 @@ module _ (d : Desk) (reply : Reply) (d′ : Desk) where
     unfolding Sound Alone accepted resume
     resume-field f s = alone-field Accepted (resumeGame seen) f (is .0) (s .0)
 
+    over : (es : List Entry) → Over 0 seen (d .bytes) es (replay seen (d .bytes) es .entries) (replay seen (d .bytes) es)
+    unfolding Sound RoomIn viewOf capacity
+    over es = replay-over es seen (d .bytes) (is .0 .game) (is .1)
+
+    -- a field of the game that a replay gives, by the entries that its reply counts
+    replay-field :
+        {A : Type 0} (f : rules.Game → A) (said : List Entry → A) (es : List Entry) → f (replay seen (d .bytes) es .game) ≡ said (take (replay seen (d .bytes) es .entries) es) →
+        Step (runs.replay es) d reply d′ → f (viewOf (d′ .game)) ≡ said (take (reply .entries) es)
+    replay-field f said es e s = ap f (s .shown is) ∙ e ∙ ap (λ (n : ℕ). said (take n es)) (sym (s .counted is))
+
     pub step-turn : (call : Call) → Step call d reply d′ → viewOf (d′ .game) .turn ≡ turnAfter call reply (seen .turn)
     unfolding freshGame handicapGame stoneGame passGame resignGame resumeGame
     step-turn (runs.newGame h w flags) s =
@@ -106,6 +117,7 @@ module _ (d : Desk) (reply : Reply) (d′ : Desk) where
     step-turn runs.pass s = pass-field (λ v. v .turn) s
     step-turn (runs.resign player) s = resign-field (λ v. v .turn) player s ∙ cond-same (accepted reply) (seen .turn)
     step-turn runs.resume s = resume-field (λ v. v .turn) s ∙ cond-same (accepted reply) (seen .turn)
+    step-turn (runs.replay es) s = replay-field (λ v. v .turn) (λ l. turnOver l (seen .turn)) es (over es .turn) s
 
     pub step-black : (call : Call) → Step call d reply d′ → viewOf (d′ .game) .blackPut ≡ putAfter black call reply (seen .turn) (seen .blackPut)
     unfolding freshGame handicapGame stoneGame passGame resignGame resumeGame
@@ -116,6 +128,7 @@ module _ (d : Desk) (reply : Reply) (d′ : Desk) where
     step-black runs.pass s = pass-field (λ v. v .blackPut) s ∙ cond-same (accepted reply) (seen .blackPut)
     step-black (runs.resign player) s = resign-field (λ v. v .blackPut) player s ∙ cond-same (accepted reply) (seen .blackPut)
     step-black runs.resume s = resume-field (λ v. v .blackPut) s ∙ cond-same (accepted reply) (seen .blackPut)
+    step-black (runs.replay es) s = replay-field (λ v. v .blackPut) (λ l. putOver black l (seen .turn) (seen .blackPut)) es (over es .blacks) s
 
     pub step-white : (call : Call) → Step call d reply d′ → viewOf (d′ .game) .whitePut ≡ putAfter white call reply (seen .turn) (seen .whitePut)
     unfolding freshGame handicapGame stoneGame passGame resignGame resumeGame
@@ -126,49 +139,9 @@ module _ (d : Desk) (reply : Reply) (d′ : Desk) where
     step-white runs.pass s = pass-field (λ v. v .whitePut) s ∙ cond-same (accepted reply) (seen .whitePut)
     step-white (runs.resign player) s = resign-field (λ v. v .whitePut) player s ∙ cond-same (accepted reply) (seen .whitePut)
     step-white runs.resume s = resume-field (λ v. v .whitePut) s ∙ cond-same (accepted reply) (seen .whitePut)
+    step-white (runs.replay es) s = replay-field (λ v. v .whitePut) (λ l. putOver white l (seen .turn) (seen .whitePut)) es (over es .whites) s
 
--- ---- The history
-
--- what a call leaves of the lent bytes, and that they have room for what the state counts then
-pub record Lent (bytes bytes′ : List ℕ) (records : ℕ) : Type 0 where
-  pub long : length bytes′ ≡ length bytes
-  pub beyond : drop (recordBytes * capacity bytes) bytes′ ≡ drop (recordBytes * capacity bytes) bytes
-  pub room : records ≤ capacity bytes
-
-lent-same : {bytes bytes′ : List ℕ} {n m : ℕ} → bytes′ ≡ bytes → m ≡ n → n ≤ capacity bytes → Lent bytes bytes′ m
-lent-same {bytes} e f l =
-    record {
-      long = ap length e;
-      beyond = ap (drop (recordBytes * capacity bytes)) e;
-      room = subst (λ (k : ℕ). k ≤ capacity bytes) (sym f) l;
-    }
-
-module _ (g : rules.Game) (bytes : List ℕ) (r c : ℕ) where
-  -- a stone is accepted only where the present board is recorded or finds room
-  pub accepted-free : accepts (stoneAnswer g bytes r c) ≡ true → full bytes (g .records) (g .colours) ≡ false
-  unfolding stoneAnswer accepts number
-  accepted-free e = refuse-not HistoryFull (full bytes (g .records) (g .colours)) refl (then-second _ _ (then-second _ _ (then-second _ _ e)))
-
-  pub stone-lent : g .records ≤ capacity bytes → Lent bytes (stone g bytes r c .bytes) (stone g bytes r c .game .records)
-  unfolding stone result stoneGame capacity
-  stone-lent l =
-      ⊎-elim
-      (λ (y : accepts (stoneAnswer g bytes r c) ≡ true).
-      let free = accepted-free y in
-      rw y
-      (record {
-        long = bytesAfter-length bytes (g .records) (g .colours) free;
-        beyond = bytesAfter-beyond bytes (g .records) (g .colours) free;
-        room = fits free;
-      }))
-      (λ (n : accepts (stoneAnswer g bytes r c) ≡ false). rw n (lent-same refl refl l))
-      (decided (accepts (stoneAnswer g bytes r c)))
-    where
-      fits : full bytes (g .records) (g .colours) ≡ false → recordsAfter bytes (g .records) (g .colours) ≤ capacity bytes
-      fits free =
-          let long = bytesAfter-length bytes (g .records) (g .colours) free in
-          subst (λ (n : ℕ). recordsAfter bytes (g .records) (g .colours) ≤ n) (ap (λ (n : ℕ). n / recordBytes) long)
-          (recordsAfter-fits bytes (g .records) (g .colours) free l)
+-- ---- The history and the state
 
 module _ (d : Desk) (reply : Reply) (d′ : Desk) where
   module _ (is : Sound d) where
@@ -178,15 +151,15 @@ module _ (d : Desk) (reply : Reply) (d′ : Desk) where
         lent-same (s .1)
         (ap (λ (v : rules.Game). v .records) (s .0 .shown) ∙ new-field (λ v. v .records) h w flags ∙ cond-same (accepts (newAnswer h w flags)) 0) (omega arith)
     step-lent (runs.handicap spots) s = lent-same (s .1) (handicap-field d reply d′ is (λ v. v .records) spots s ∙ cond-same (accepted reply) (d .game .records)) (is .1)
-    step-lent (runs.stone r c) s = stone-step r c s
-      where
-        stone-step : (r c : ℕ) → Step (runs.stone r c) d reply d′ → Lent (d .bytes) (d′ .bytes) (viewOf (d′ .game) .records)
-        stone-step r c s =
-            subst (λ (xs : List ℕ). Lent (d .bytes) xs (viewOf (d′ .game) .records)) (sym (s .lent is))
-            (subst (λ (v : rules.Game). Lent (d .bytes) (stone (viewOf (d .game)) (d .bytes) r c .bytes) (v .records)) (sym (s .shown is)) (stone-lent (viewOf (d .game)) (d .bytes) r c (is .1)))
+    step-lent (runs.stone r c) s =
+        subst (λ (xs : List ℕ). Lent (d .bytes) xs (viewOf (d′ .game) .records)) (sym (s .lent is))
+        (subst (λ (v : rules.Game). Lent (d .bytes) (stone (viewOf (d .game)) (d .bytes) r c .bytes) (v .records)) (sym (s .shown is)) (stone-lent (viewOf (d .game)) (d .bytes) r c (is .1)))
     step-lent runs.pass s = lent-same (s .1) (pass-field d reply d′ is (λ v. v .records) s ∙ cond-same (accepted reply) (d .game .records)) (is .1)
     step-lent (runs.resign player) s = lent-same (s .1) (resign-field d reply d′ is (λ v. v .records) player s ∙ cond-same (accepted reply) (d .game .records)) (is .1)
     step-lent runs.resume s = lent-same (s .1) (resume-field d reply d′ is (λ v. v .records) s ∙ cond-same (accepted reply) (d .game .records)) (is .1)
+    step-lent (runs.replay es) s =
+        subst (λ (xs : List ℕ). Lent (d .bytes) xs (viewOf (d′ .game) .records)) (sym (s .lent is))
+        (subst (λ (v : rules.Game). Lent (d .bytes) (replay (viewOf (d .game)) (d .bytes) es .bytes) (v .records)) (sym (s .shown is)) (over d reply d′ is es .lent))
 
     step-true : (call : Call) → Step call d reply d′ → TrueState (d′ .game)
     unfolding Sound Alone
@@ -196,6 +169,7 @@ module _ (d : Desk) (reply : Reply) (d′ : Desk) where
     step-true runs.pass s = s .0 .kept (is .0)
     step-true (runs.resign player) s = s .0 .kept (is .0)
     step-true runs.resume s = s .0 .kept (is .0)
+    step-true (runs.replay es) s = s .kept is
 
     pub step-sound : (call : Call) → Step call d reply d′ → Sound d′
     unfolding Sound RoomIn viewOf capacity
@@ -213,3 +187,4 @@ module _ (d : Desk) (reply : Reply) (d′ : Desk) where
     step-history runs.pass s = s .1
     step-history (runs.resign player) s = s .1
     step-history runs.resume s = s .1
+    step-history (runs.replay es) s = s .lent is
