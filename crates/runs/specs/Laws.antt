@@ -7,3 +7,5 @@ pub mod Stone
 pub mod Run
 pub mod Orders
 pub mod Exactly
+pub mod Decide
+pub mod Alike

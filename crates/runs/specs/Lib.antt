@@ -2,5 +2,6 @@
 pub mod Runs
 pub mod Holds
 pub mod Orders
+pub mod Alike
 pub mod Laws
 pub mod Statements
