@@ -15,7 +15,8 @@ use Rattle.game.specs.Promise.{CalledAlone}
 use Rattle.runs.specs.Runs as runs
 use Rattle.runs.specs.Runs.{Call, Reply, Desk, Sound, Alone, Step}
 use Rattle.runs.specs.Alike.{isReplay, Alike, equal, seen, AlikeDesks, SameReply}
-use Rattle.runs.specs.Laws.Decide.{state-told, sound-told}
+use Rattle.checking.specs.Laws.State.{state-or-not}
+use Rattle.runs.specs.Laws.Decide.{sound-told}
 
 -- ---- An equivalence
 
@@ -72,7 +73,7 @@ alone-alike call {g} {h} like p q =
     (λ (n : ¬ TrueState g).
     let m : ¬ TrueState h = λ u. n (alike-true (alike-back like) u) in
     (p .damaged n .0 ∙ sym (q .damaged m .0), equal (p .damaged n .1 ∙ alike-damaged like n ∙ sym (q .damaged m .1))))
-    (state-told g)
+    (state-or-not g)
 
 -- ---- Each call
 

@@ -20,7 +20,7 @@ use Rattle.rules.specs.Game.{Game}
 use Rattle.rules.specs.Calls.{sizeAnswer, flagsAnswer, newAnswer, outside, forbiddenAnswer, pointAnswer, checkAnswer, stoneAnswer, pauseAnswer, Spot, spotsAnswer, layAnswer}
 use Rattle.rules.specs.Calls.{result, stone, pass, resign, resume, handicapAnswer, boardAnswer, listAnswer, choked, layBlack, Entry, entryCall, Replayed, replayFrom}
 use Rattle.rules.specs.Laws.Lists.{decided, not-both, and-left, and-right, and-both}
-use Rattle.placing.specs.Laws.Answers.{then-refused, then-accepted}
+use Rattle.rules.specs.Laws.Answers.{then-refused, then-accepted}
 use Rattle.runs.specs.Orders.{Row, row, firstOf, First, clear, this, later}
 use Rattle.runs.specs.Orders.{newRows, forbiddenRows, pointRows, checkRows, stoneRows, pauseRows, spotRows, handicapRows, boardRows, listRows, entryRows, replayRows, acceptedOf}
 use Rattle.runs.specs.Laws.Replay.{replay-on, replay-stop}
