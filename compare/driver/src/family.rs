@@ -62,7 +62,7 @@ impl Family {
             Family::Limit => return Play { lines: limit::games().swap_remove(number), steps: Vec::new() },
             Family::Words => return Play { lines: words::lines(&mut random), steps: Vec::new() },
         };
-        let scope = Scope { beyond_the_crate: self == Family::All, legal_lists: matches!(self, Family::Square | Family::All) };
+        let scope = Scope { beyond_the_crate: self == Family::All, legal_lists: matches!(self, Family::Square | Family::All), flags: None };
         play(&mut random, scope, height, width)
     }
 }

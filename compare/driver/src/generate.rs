@@ -12,6 +12,8 @@ pub struct Scope {
     /// Points off the board, flags above 15, wrong sizes, handicaps that are refused, other lent lengths.
     pub beyond_the_crate: bool,
     pub legal_lists: bool,
+    /// The flags of the first game; drawn, if none are given.
+    pub flags: Option<u8>,
 }
 
 pub struct Step {
@@ -38,7 +40,8 @@ struct Player<'a> {
 /// A random game on that size.
 pub fn game(random: &mut Random, scope: Scope, height: usize, width: usize) -> Vec<Step> {
     let area = height * width;
-    let flags = random.below(16) as u128;
+    let drawn = random.below(16) as u128;
+    let flags = scope.flags.map_or(drawn, u128::from);
     let calls = match area {
         0..=25 => random.between(60, 500),
         26..=100 => random.between(150, 450),

@@ -1,10 +1,13 @@
 //! Plays seeded random games through two referees and compares every answer; the first difference is shrunk and shown.
 
+mod antt;
 mod call;
 mod compare;
 mod count;
+mod definitions;
 mod family;
 mod generate;
+mod gnugo;
 mod kinds;
 mod limit;
 mod one_hash;
@@ -26,11 +29,15 @@ const USAGE: &str = "usage: driver LEFT RIGHT FAMILY [--games N] [--seed N] [--s
        driver LEFT RIGHT sizes [--games N] [--seed N]
        driver sample [--kinds]
        driver one-hash
+       driver gnugo REFEREE GNUGO SIDE FLAGS GAMES SEED
+       driver definitions ORACLE PLAIN FOLDER CALLS LARGE SEED
 LEFT and RIGHT are commands with their words; FAMILY is square, tall, all, limit, words, or one size, as 3x2.
 --show prints the lines of the games in place of playing them.
 sizes tells which of the 361 sizes the two play alike, with and without legal lists.
 sample prints short games that show each test both ways and each kind of capture; --kinds lists what they show.
-one-hash prints a game on which a referee that compares hashes alone is wrong.";
+one-hash prints a game on which a referee that compares hashes alone is wrong.
+gnugo plays random games on SIDE × SIDE by FLAGS, 0 to 3, through a referee and GNU Go.
+definitions writes a crate of specs into FOLDER: some thousand calls on small boards, CALLS more at random and LARGE games on 9×9 for the prover to compute.";
 
 struct Wanted {
     pair: Pair,
@@ -61,6 +68,19 @@ fn main() {
         ["sample"] => return sample::print(1, false),
         ["sample", "--kinds"] => return sample::print(1, true),
         ["one-hash"] => return one_hash::print(),
+        ["gnugo", referee, gnugo, side, flags, games, seed] => {
+            if let (Ok(side), Ok(flags), Ok(games), Ok(seed)) = (side.parse(), flags.parse(), games.parse(), seed.parse()) {
+                let wanted = gnugo::Wanted { referee: Program::new(referee), gnugo: gnugo.to_string(), side, flags, games, seed };
+                std::process::exit(if gnugo::play(&wanted) { 0 } else { 1 });
+            }
+        }
+        ["definitions", oracle, plain, folder, calls, large, seed] => {
+            if let (Ok(calls), Ok(large), Ok(seed)) = (calls.parse(), large.parse(), seed.parse()) {
+                let (oracle, plain) = (Program::new(oracle), Program::new(plain));
+                let wanted = definitions::Wanted { oracle, plain, folder: folder.as_ref(), calls, large, seed };
+                return definitions::write(&wanted).expect("a folder to write");
+            }
+        }
         _ => {}
     }
     let Some(wanted) = wanted() else {

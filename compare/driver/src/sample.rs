@@ -11,28 +11,49 @@ use std::collections::{BTreeMap, BTreeSet};
 /// How many games are looked at, and how far into each.
 const LOOKED_AT: u64 = 40_000;
 const LONGEST: usize = 60;
+/// The most rows and columns, but for one game of real length.
+const SIDE: usize = 6;
 
-/// Prints the lines of the sample, a state after each call, and on standard error what it shows.
-pub fn print(seed: u64, full: bool) {
-    let mut shown: BTreeMap<String, usize> = BTreeMap::new();
-    let mut calls = 0;
-    for number in 0..LOOKED_AT {
+/// A game that was kept: its number, its calls, and whether the crate can be asked.
+pub struct Kept {
+    pub number: u64,
+    pub calls: Vec<Call>,
+    pub beyond_the_crate: bool,
+}
+
+/// How often each kind is shown by the games that were kept.
+pub type Shown = BTreeMap<String, usize>;
+
+/// Of so many games, on boards up to so many rows and columns, those that show something new.
+pub fn keep(seed: u64, games: u64, side: usize) -> (Vec<Kept>, Shown) {
+    let mut shown = Shown::new();
+    let mut kept = Vec::new();
+    for number in 0..games {
         let mut random = Random::new(seed, number);
-        let (height, width) = (random.between(1, 6), random.between(1, 6));
-        let beyond = random.percent(30);
-        let scope = Scope { beyond_the_crate: beyond, legal_lists: true };
+        let (height, width) = (random.between(1, side), random.between(1, side));
+        let beyond_the_crate = random.percent(30);
+        let scope = Scope { beyond_the_crate, legal_lists: true, flags: None };
         // The crate answers on square boards; the others are left to the plain referee.
-        let width = if beyond { width } else { height };
+        let width = if beyond_the_crate { width } else { height };
         let game: Vec<Call> = generate::game(&mut random, scope, height, width).into_iter().map(|step| step.call).take(LONGEST).collect();
         let wanted: BTreeSet<String> = shows(&game).into_iter().filter(|kind| !shown.contains_key(kind)).collect();
         if wanted.is_empty() {
             continue;
         }
-        let game = cut_down(game, &wanted);
-        shows(&game).into_iter().for_each(|kind| *shown.entry(kind).or_default() += 1);
-        calls += game.len();
-        println!("# {number}");
-        game.iter().for_each(|call| println!("{call}\nstate"));
+        let calls = cut_down(game, &wanted);
+        shows(&calls).into_iter().for_each(|kind| *shown.entry(kind).or_default() += 1);
+        kept.push(Kept { number, calls, beyond_the_crate });
+    }
+    (kept, shown)
+}
+
+/// Prints the lines of the sample, a state after each call, and on standard error what it shows.
+pub fn print(seed: u64, full: bool) {
+    let (kept, shown) = keep(seed, LOOKED_AT, SIDE);
+    let calls: usize = kept.iter().map(|game| game.calls.len()).sum();
+    for game in &kept {
+        println!("# {}", game.number);
+        game.calls.iter().for_each(|call| println!("{call}\nstate"));
     }
     let long = real_game(seed);
     println!("# a game of real length");
@@ -50,7 +71,7 @@ pub fn print(seed: u64, full: bool) {
 
 /// The first game on 19 × 19 with many stones.
 fn real_game(seed: u64) -> Vec<Call> {
-    let scope = Scope { beyond_the_crate: false, legal_lists: true };
+    let scope = Scope { beyond_the_crate: false, legal_lists: true, flags: None };
     let mut games = (0..).map(|number| generate::game(&mut Random::new(seed, number), scope, 19, 19));
     let stones = |game: &Vec<Step>| game.iter().filter(|step| matches!(step.call, Call::Stone(..)) && step.reason == Reason::Accepted).count();
     let game = games.find(|game| stones(game) >= 250).expect("there is always another game");

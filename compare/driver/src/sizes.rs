@@ -12,7 +12,7 @@ pub fn tell(pair: &Pair, seed: u64, games: usize) {
     for height in 1..=19 {
         for width in 1..=19 {
             let agree = |legal_lists: bool| {
-                let scope = Scope { beyond_the_crate: false, legal_lists };
+                let scope = Scope { beyond_the_crate: false, legal_lists, flags: None };
                 (0..games as u64).all(|number| {
                     let game = play(&mut Random::new(seed, number), scope, height, width);
                     pair.difference(&game.lines).is_none()
