@@ -30,14 +30,14 @@ use Rattle.board.specs.Board.{owner, chainIn, colourAt}
 use Rattle.board.specs.True.{ExactTable}
 use Rattle.board.specs.Laws.Board.{area-fits, stone-owned}
 use Rattle.board.specs.Laws.Chains.{Largest, owner-colour}
-use Rattle.laying.specs.Steps.{put, join, remove}
-use Rattle.laying.specs.Putting.{Putting}
-use Rattle.laying.specs.Joining.{Joining}
-use Rattle.laying.specs.Removing.{Removing}
+use Rattle.steps.specs.Steps.{put, join, remove}
+use Rattle.steps.specs.Putting.{Putting}
+use Rattle.steps.specs.Joining.{Joining}
+use Rattle.steps.specs.Removing.{Removing}
 use Rattle.laying.specs.Lay.{joinAll, dead, lifted, takeAll}
 use Rattle.laying.specs.Laws.Gather.{Gathered, to-join, pass-by, join-one, put-own}
-use Rattle.laying.specs.Laws.Put.{put-exact, owner-here}
-use Rattle.laying.specs.Laws.Remove.{exact-remove}
+use Rattle.steps.specs.Laws.Put.{put-exact, owner-here}
+use Rattle.steps.specs.Laws.Remove.{exact-remove}
 
 -- ---- The points beside, as the code has them
 
@@ -45,17 +45,6 @@ member : (l : List ℕ) (i : ℕ) → i < length l → List·Memᴰ (getD l i 0)
 member [] i h = absurd (not-suc-le-zero h)
 member (x ∷ l) zero h = List·Memᴰ·head refl
 member (x ∷ l) (suc i) h = List·Memᴰ·tail (member l i (le-of-suc-le-suc h))
-
--- each of the points beside is on the board
-pub beside-on :
-    (h w p : ℕ) (around : Around) → Holds around (neighbours h w p) → length (around .points) ≡ 4 →
-    (i : ℕ) → i < around .count → getD (around .points) i 0 < area h w
-beside-on h w p around holds long i l =
-    let sized : length (take (around .count) (around .points)) ≡ around .count =
-    length-take-le (around .count) (around .points) (omega (arith, holds .few)) in
-    neighbours-on h w p (getD (around .points) i 0)
-    (subst (λ (qs : List ℕ). List·Memᴰ (getD (around .points) i 0) qs) (holds .listed)
-    (Memᴰ·cast (sym (getD-take (around .count) (around .points) i 0 l)) (member (take (around .count) (around .points)) i (omega arith))))
 
 -- the list from the i-th point on
 next-point : (near : List ℕ) (i q : ℕ) → i < length near → q ≡ getD near i 0 → drop i near ≡ q ∷ drop (i + 1) near
@@ -68,10 +57,6 @@ module _ (b : Board) (is : ExactTable b) where
   pub entry : (d : Chain) (s : ℕ) → s < slots → getD (b .chains) s d ≡ chainIn b s
   unfolding chainIn
   entry d s low = getD-default (b .chains) s d freeChain (omega (arith, is .shape .chains))
-
-  pub owner-read : (q : ℕ) → q < maxArea → getD (b .owners) q 0 ≡ owner b q
-  unfolding owner
-  owner-read q h = getD-default (b .owners) q 0 slots (omega (arith, is .shape .owners))
 
 -- a point that no chain owns has no player's colour
 module _ (b : Board) (is : ExactTable b) (c : ℕ) (player : Player c) (q : ℕ) where
@@ -139,18 +124,21 @@ module _ (board : Board) (largest : Largest board) (p c s : ℕ) (is : Putting b
     pub gathering-unowned : (o : ℕ) → o ≡ owner b q → slots ≤ o → Gathering start p c s near (i + 1) b t
     gathering-unowned o its h = gathering-pass (unowned-test b (g .so-far .table) c player q (omega arith) (not (eqb (owner b q) t)))
 
-    module _ (o : ℕ) (its : o ≡ owner b q) (d : Chain) (low : o < slots) where
-      test-is : eqb (getD (b .chains) o d .colour) c && not (eqb o t) ≡ eqb (colourAt b q) c && not (eqb (owner b q) t)
+    module _ (o : ℕ) (its : o ≡ owner b q) (d : Chain) (low : o < slots)
+        (test : Bool) (tested : test ≡ eqb (getD (b .chains) o d .colour) c && not (eqb o t)) where
+      test-is : eqb (colourAt b q) c && not (eqb (owner b q) t) ≡ test
       test-is =
-          ap₂ (λ (x y : ℕ). eqb x c && not (eqb y t))
-          (ap (λ (x : Chain). x .colour) (entry b (g .so-far .table) d o low) ∙ sym (owner-colour b o q (sym its))) its
+          sym
+          (tested
+          ∙ ap₂ (λ (x y : ℕ). eqb x c && not (eqb y t))
+          (ap (λ (x : Chain). x .colour) (entry b (g .so-far .table) d o low) ∙ sym (owner-colour b o q (sym its))) its)
 
-      pub gathering-other : eqb (getD (b .chains) o d .colour) c && not (eqb o t) ≡ false → Gathering start p c s near (i + 1) b t
-      gathering-other f = gathering-pass (sym test-is ∙ f)
+      pub gathering-other : test ≡ false → Gathering start p c s near (i + 1) b t
+      gathering-other f = gathering-pass (test-is ∙ f)
 
-      module _ (y : eqb (getD (b .chains) o d .colour) c && not (eqb o t) ≡ true) where
+      module _ (y : test ≡ true) where
         asked : eqb (colourAt b q) c && not (eqb (owner b q) t) ≡ true
-        asked = sym test-is ∙ y
+        asked = test-is ∙ y
 
         is-own : colourAt b q ≡ c
         is-own = eqb-true (colourAt b q) c (and-left _ _ asked)
@@ -206,26 +194,25 @@ module _ (start : Board) (foe : ℕ) (near : List ℕ) (player : Player foe) whe
     pub taking-unowned : (o : ℕ) → o ≡ owner b q → slots ≤ o → Taking start foe near (k + 1) b stones point
     taking-unowned o its h = taking-pass (unowned-test b (t .table) foe player q (omega arith) (dead b (owner b q)))
 
-    module _ (o : ℕ) (its : o ≡ owner b q) (d : Chain) (low : o < slots) where
+    module _ (o : ℕ) (its : o ≡ owner b q) (d : Chain) (low : o < slots)
+        (test : Bool) (tested : test ≡ eqb (getD (b .chains) o d .colour) foe && eqb (number (getD (b .chains) o d .liberties)) 0) where
       is-there : getD (b .chains) o d ≡ chainIn b o
       is-there = entry b (t .table) d o low
 
-      foe-test :
-          eqb (getD (b .chains) o d .colour) foe && eqb (number (getD (b .chains) o d .liberties)) 0
-          ≡ eqb (colourAt b q) foe && dead b (owner b q)
+      foe-test : eqb (colourAt b q) foe && dead b (owner b q) ≡ test
       unfolding dead
       foe-test =
-          ap (λ (x : Chain). eqb (x .colour) foe && eqb (number (x .liberties)) 0) is-there
-          ∙ ap₂ (λ (x y : ℕ). eqb x foe && dead b y) (sym (owner-colour b o q (sym its))) its
+          sym
+          (tested
+          ∙ ap (λ (x : Chain). eqb (x .colour) foe && eqb (number (x .liberties)) 0) is-there
+          ∙ ap₂ (λ (x y : ℕ). eqb x foe && dead b y) (sym (owner-colour b o q (sym its))) its)
 
-      pub taking-other :
-          eqb (getD (b .chains) o d .colour) foe && eqb (number (getD (b .chains) o d .liberties)) 0 ≡ false →
-          Taking start foe near (k + 1) b stones point
-      taking-other f = taking-pass (sym foe-test ∙ f)
+      pub taking-other : test ≡ false → Taking start foe near (k + 1) b stones point
+      taking-other f = taking-pass (foe-test ∙ f)
 
-      module _ (y : eqb (getD (b .chains) o d .colour) foe && eqb (number (getD (b .chains) o d .liberties)) 0 ≡ true) where
+      module _ (y : test ≡ true) where
         foe-dead : eqb (colourAt b q) foe && dead b (owner b q) ≡ true
-        foe-dead = sym foe-test ∙ y
+        foe-dead = foe-test ∙ y
 
         pub taking-removing : Removing b o
         taking-removing =

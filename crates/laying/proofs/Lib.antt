@@ -1,4 +1,4 @@
--- What the proofs of several functions share.
-pub mod Walked
-pub mod Turns
+-- What the proof of laying a stone is made of.
+pub mod Alone
 pub mod Beside
+pub mod Joined

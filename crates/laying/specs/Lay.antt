@@ -9,7 +9,7 @@ use Rattle.rules.specs.Colours.{other}
 use Rattle.sets.specs.Liberties.{number}
 use Rattle.board.specs.declared.goban.Board.{Board}
 use Rattle.board.specs.Board.{owner, chainIn, colourAt}
-use Rattle.laying.specs.Steps.{put, join, remove}
+use Rattle.steps.specs.Steps.{put, join, remove}
 
 -- the chain in slot s, joined with each chain of its colour that owns a point of the list: the board, and the slot that it is in then
 pub record Joined : Type 0 where

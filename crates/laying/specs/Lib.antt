@@ -1,9 +1,4 @@
--- What the steps of laying a stone do to a board.
-pub mod Steps
-pub mod Links
-pub mod Putting
-pub mod Joining
-pub mod Removing
+-- What laying a stone does to a board.
 pub mod Lay
 pub mod Laying
 pub mod Laws

@@ -1,20 +1,32 @@
 // Laying a stone, as the crate's `push` does: it is put as a chain of its own, joined with the chains of its colour beside it, the
 // enemy's chains without liberty beside it are lifted, and then its own, where it has none and suicide is allowed.
-use crate::join::join;
-use crate::put::put_stone;
-use crate::remove::remove_chain;
 use board::goban::Board;
 use chains::group::Chain;
+use chains::group::free_chain;
 use chains::group::index;
+use chains::group::new_chain;
+use hashing::zobrist::index_zobrist;
+use points::coord::Around;
 use points::coord::Place;
 use points::coord::neighbours;
+use points::sizes::MAX_AREA;
 use points::sizes::SLOTS;
 use points::stones::other;
 use sets::liberties::any_liberty;
+use sets::liberties::empty_liberties;
+use steps::join::own;
+use steps::join::relink;
+use steps::join::unite;
+use steps::put::opened;
+use steps::put::without;
+use steps::remove::remove_chain;
 ghost use mathlib.Core.Bool.{cond, not, _&&_};
 ghost use mathlib.Core.Option.{some, none};
 ghost use mathlib.Core.Path.{_≡_};
+ghost use Prim.Native.Nat.{_<_};
 ghost use lib.Dec.{eqb};
+ghost use lib.ListN.{length, getD};
+ghost use Rattle.rules.specs.Sizes.{maxArea, slots};
 ghost use Rattle.rules.specs.Flags.{SUICIDE, forbids};
 ghost use Rattle.points.specs.Place.{placeOf};
 ghost use Rattle.sets.specs.Liberties.{number};
@@ -26,6 +38,27 @@ pub struct Laid {
     pub taken: u16,
     pub lost: u16,
     pub ko: Place,
+}
+
+// The i-th of the points beside a stone.
+fn point_beside(around: Around, i: usize) -> usize
+    requires { ⌜ i < 4 ⌝ }
+    ensures { λ r. ⌜ r ≡ getD (around .points) i 0 ⌝ }
+{
+    let points = around.points;
+    index(points[i])
+}
+
+// The slot that owns it.
+fn owner_beside(owners: &[u16; MAX_AREA], around: Around, i: usize) -> usize
+    requires { ⌜ (length (now owners) ≡ maxArea) × (i < 4) ⌝ }
+    ensures { λ r. ⌜ r ≡ getD (now (owners .entry)) (getD (around .points) i 0) slots ⌝ }
+{
+    let point = point_beside(around, i);
+    if MAX_AREA <= point {
+        return SLOTS;
+    }
+    index(owners[point])
 }
 
 // The chain in the slot beside the new stone is to be joined with that in the stone's own slot.
@@ -67,8 +100,8 @@ fn is_lost(chain: Chain, flags: u8) -> bool
     flags / 2 % 2 != 1 && is_dead(chain)
 }
 
-// A stone of this colour on the point. The chain table is gone through once, and copied no oftener than a step needs it.
-pub fn lay(board: Board, point: usize, colour: u8, flags: u8) -> Laid
+// A stone of this colour on the point. All is done on one copy of the board, which a step would copy again.
+pub fn lay(mut board: Board, point: usize, colour: u8, flags: u8) -> Laid
     requires { ⌜ Laying board point colour flags ⌝ }
     ensures { λ r. ⌜ LaidOut board point colour flags r ⌝ }
 {
@@ -77,18 +110,36 @@ pub fn lay(board: Board, point: usize, colour: u8, flags: u8) -> Laid
         slot += 1;
     }
     let around = neighbours(board.height, board.width, point);
-    let beside = around.points;
-    let count = around.count;
-    let mut result = put_stone(board, point, colour, slot);
+    let mut stone = new_chain(colour, point as u16, empty_liberties());
     let mut i = 0;
-    while i < count {
-        let q = index(beside[i]);
-        let owner = index(result.owners[q]);
+    while i < around.count {
+        let owner = owner_beside(&board.owners, around, i);
+        stone = opened(stone, owner, point_beside(around, i));
         i += 1;
         if owner < SLOTS {
-            let chain = result.chains[owner];
-            if joins(chain, owner, colour, slot) {
-                result = join(result, owner, slot);
+            let chain = without(board.chains[owner], point);
+            board.chains[owner] = chain;
+        }
+    }
+    board.owners[point] = slot as u16;
+    board.next[point] = point as u16;
+    board.hash = board.hash ^ index_zobrist(point, colour);
+    board.chains[slot] = stone;
+    i = 0;
+    while i < around.count {
+        let owner = owner_beside(&board.owners, around, i);
+        i += 1;
+        if owner < SLOTS {
+            let a = board.chains[owner];
+            if joins(a, owner, colour, slot) {
+                let b = board.chains[slot];
+                let next = board.next;
+                own(&mut board.owners, &next, b, owner);
+                relink(&mut board.next, a, b);
+                let free = free_chain();
+                board.chains[slot] = free;
+                let whole = unite(a, b);
+                board.chains[owner] = whole;
                 slot = owner;
             }
         }
@@ -96,33 +147,32 @@ pub fn lay(board: Board, point: usize, colour: u8, flags: u8) -> Laid
     let enemy = other(colour);
     let mut taken = 0u16;
     let mut prisoner = 0;
-    let mut k = 0;
-    while k < count {
-        let q = index(beside[k]);
-        let owner = index(result.owners[q]);
-        k += 1;
+    i = 0;
+    while i < around.count {
+        let owner = owner_beside(&board.owners, around, i);
+        i += 1;
         if owner < SLOTS {
-            let chain = result.chains[owner];
+            let chain = board.chains[owner];
             if is_captured(chain, enemy) {
-                result = remove_chain(result, owner);
+                board = remove_chain(board, owner);
                 taken += chain.count;
                 prisoner = index(chain.origin);
             }
         }
     }
     let ko = ko_point(taken, prisoner);
-    let own = result.chains[slot];
-    if is_lost(own, flags) {
-        let emptied = remove_chain(result, slot);
+    let mine = board.chains[slot];
+    if is_lost(mine, flags) {
+        board = remove_chain(board, slot);
         return Laid {
-            board: emptied,
+            board: board,
             taken: taken,
-            lost: own.count,
+            lost: mine.count,
             ko: ko,
         };
     }
     Laid {
-        board: result,
+        board: board,
         taken: taken,
         lost: 0,
         ko: ko,

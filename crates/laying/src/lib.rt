@@ -1,5 +1,2 @@
-// Floor 3, what changes a board: a stone is put, chains are joined and removed, after the crate's goban.rs.
-pub mod join;
+// Floor 3, what changes a board: a stone is laid, after the crate's goban.rs.
 pub mod lay;
-pub mod put;
-pub mod remove;

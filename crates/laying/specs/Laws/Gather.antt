@@ -18,12 +18,12 @@ use Rattle.board.specs.Board.{owner, chainIn, colourAt}
 use Rattle.board.specs.True.{ExactTable}
 use Rattle.board.specs.Laws.Board.{stone-owned}
 use Rattle.board.specs.Laws.Chains.{Largest, owner-colour}
-use Rattle.laying.specs.Steps.{put, join}
-use Rattle.laying.specs.Putting.{Putting}
-use Rattle.laying.specs.Joining.{Joining, Touching}
+use Rattle.steps.specs.Steps.{put, join}
+use Rattle.steps.specs.Putting.{Putting}
+use Rattle.steps.specs.Joining.{Joining, Touching}
 use Rattle.laying.specs.Lay.{joinAll}
-use Rattle.laying.specs.Laws.Put.{put-exact, owner-here, owner-there, colour-put}
-use Rattle.laying.specs.Laws.Join.{owner-join, owner-moved, owner-stayed, colour-join, exact-join}
+use Rattle.steps.specs.Laws.Put.{put-exact, owner-here, owner-there, colour-put}
+use Rattle.steps.specs.Laws.Join.{owner-join, owner-moved, owner-stayed, colour-join, exact-join}
 
 -- b is the board start with the chains of the stone p joined so far; qs are the neighbours still to come
 pub record Gathered (start : Board) (p c : ℕ) (qs : List ℕ) (b : Board) (s : ℕ) : Type 0 where

@@ -34,11 +34,11 @@ use Rattle.board.specs.Board.{owner, chainIn, colourAt, coloursOf}
 use Rattle.board.specs.True.{ExactTable, TrueBoard}
 use Rattle.board.specs.Laws.Board.{length-colours, at-colours, empty-unowned, stone-owned}
 use Rattle.board.specs.Laws.Chains.{Largest, colours-at, owner-colour, walk-owned, true-colours, colours-true}
-use Rattle.laying.specs.Steps.{put, remove}
-use Rattle.laying.specs.Putting.{Putting}
+use Rattle.steps.specs.Steps.{put, remove}
+use Rattle.steps.specs.Putting.{Putting}
 use Rattle.laying.specs.Lay.{Joined, joinAll, dead, Haul, takeAll, Laid, finished, lay}
-use Rattle.laying.specs.Laws.Put.{put-exact, colours-put}
-use Rattle.laying.specs.Laws.Remove.{owner-remove, owner-other, colour-remove, exact-remove}
+use Rattle.steps.specs.Laws.Put.{put-exact, colours-put}
+use Rattle.steps.specs.Laws.Remove.{owner-remove, owner-other, colour-remove, exact-remove}
 use Rattle.laying.specs.Laws.Gather.{Gathered, put-gathered, gathered-largest}
 use Rattle.laying.specs.Laws.Take.{dead-reaches, alive-reaches, Taken, taken, taken-largest, lost-foe, lost-empty, kept-colour, kept-owner}
 

@@ -26,8 +26,8 @@ use Rattle.board.specs.Board.{chainIn, coloursOf}
 use Rattle.board.specs.True.{TrueBoard}
 use Rattle.board.specs.Laws.Board.{at-colours, unowned-empty}
 use Rattle.board.specs.Laws.Slots.{slot-free}
-use Rattle.laying.specs.Steps.{put, remove}
-use Rattle.laying.specs.Putting.{Putting}
+use Rattle.steps.specs.Steps.{put, remove}
+use Rattle.steps.specs.Putting.{Putting}
 use Rattle.laying.specs.Laying.{Laying, LaidOut}
 use Rattle.laying.specs.declared.lay.Laid as code
 use Rattle.laying.specs.Lay.{Joined, joinAll, dead, Haul, takeAll, Laid, finished, lay}

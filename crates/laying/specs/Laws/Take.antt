@@ -24,9 +24,9 @@ use Rattle.board.specs.Board.{owner, chainIn, colourAt}
 use Rattle.board.specs.True.{ExactTable}
 use Rattle.board.specs.Laws.Board.{stone-owned, empty-unowned, unowned-empty}
 use Rattle.board.specs.Laws.Chains.{Largest, owner-colour, walk-owned, breath-reaches}
-use Rattle.laying.specs.Steps.{remove}
+use Rattle.steps.specs.Steps.{remove}
 use Rattle.laying.specs.Lay.{dead, Haul, lifted, takeAll}
-use Rattle.laying.specs.Laws.Remove.{owner-remove, colour-remove, exact-remove}
+use Rattle.steps.specs.Laws.Remove.{owner-remove, colour-remove, exact-remove}
 
 -- a chain that is dead does not reach empty, and the other way round
 module _ (b : Board) (is : ExactTable b) (largest : Largest b) (p : ℕ) (owned : owner b p ≢ slots) where

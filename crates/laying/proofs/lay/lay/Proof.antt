@@ -1,38 +1,49 @@
 -- `laying::lay::lay`: the search stands at a slot such that the first free one is not before it, and ends, since one is free on a true
--- board. Then the turns over the points beside: what is joined so far, then what is lifted so far. The measures are what is left.
+-- board. Then the turns over the points beside: the liberties lost so far, what is joined so far, what is lifted so far. The measures
+-- are what is left.
 use mathlib.Core.Bool.{Bool, true, false, cond, not, _&&_}
 use mathlib.Core.Path.{_≡_, refl, sym, ap, _∙_, subst}
 use mathlib.Core.Option.{some, none}
 use mathlib.Core.List.{List, []}
-use Prim.Native.Nat.{ℕ, _-_, _<_}
+use Prim.Native.Nat.{ℕ, _-_, _≤_, _<_}
 use native.Mathlib.Omega.{arith}
 use lib.Dec.{eqb}
 use lib.ListN.{length, getD, take, drop}
 use lib.Seq.{getD-take}
 use borrow.Author.Needs.{needs}
+use borrow.Author.Tests.{lt-ltb}
 use Rattle.rules.specs.Sizes.{maxArea, slots}
 use Rattle.rules.specs.Points.{neighbours}
-use Rattle.rules.specs.Colours as colours
+use Rattle.rules.specs.Colours.{other}
 use Rattle.rules.specs.Flags.{SUICIDE, forbids}
 use Rattle.rules.specs.Game.{Player}
+use Rattle.rules.specs.Hash.{stoneHash}
 use Rattle.rules.specs.Laws.Colours.{other-player}
+use Rattle.points.specs.declared.coord.Around.{Around}
 use Rattle.points.specs.Place.{placeOf}
 use Rattle.chains.specs.declared.group.Chain.{Chain}
-use Rattle.chains.specs.Group.{used, firstFree}
+use Rattle.chains.specs.Group.{newChain, used, firstFree}
 use Rattle.sets.specs.Liberties.{number}
 use Rattle.board.specs.declared.goban.Board.{Board}
 use Rattle.board.specs.Board.{owner, chainIn}
-use Rattle.board.specs.Laws.Board.{area-fits}
 use Rattle.board.specs.Laws.Chains.{Largest}
-use Rattle.laying.specs.Steps.{put, remove}
-use Rattle.laying.specs.Putting.{Putting}
+use Rattle.steps.specs.Steps.{put, remove}
+use Rattle.steps.specs.Putting.{Putting}
+use Rattle.steps.specs.Joining.{Joining}
+use Rattle.steps.specs.Laws.Put.{point-fits}
 use Rattle.laying.specs.declared.lay.Laid as code
 use Rattle.laying.specs.Laying.{LaidOut}
 use Rattle.laying.specs.Lay.{joinAll, dead, takeAll}
 use Rattle.laying.specs.Laws.Laying.{search-low, search-next, search-found, end-low, end-used, laid-out}
-use Rattle.laying.proofs.Beside.{beside-on, entry, owner-read, Gathering, gathering-none, gathering-unowned, gathering-other, gathering-joining, gathering-join, gathering-all, Taking, taking-none, taking-unowned, taking-other, taking-removing, taking-few, taking-take, taking-all}
+use Rattle.laying.proofs.Alone.{placed, Passed, passed-owners, passed-owned, passed-unowned, passed-all}
+use Rattle.laying.proofs.Beside.{entry, Gathering, gathering-none, gathering-unowned, gathering-other, gathering-joining, gathering-join, gathering-all, Taking, taking-none, taking-unowned, taking-other, taking-removing, taking-few, taking-take, taking-all}
+use Rattle.laying.proofs.Joined.{joined-walk, joined-links, joined-count, joined-all}
 use Rattle.laying.proofs.lay.lay.Statement.{statement}
 use Rattle.laying.proofs.lay.lay.Tie as tie
+
+-- the points beside
+abbrev points : Around → List ℕ
+points around = take (around .count) (around .points)
 
 abbrev Inv-loop : tie.InvT-loop
 Inv-loop point colour flags board slot₀ slot = firstFree 0 (board .chains) ≡ firstFree slot (drop slot (board .chains))
@@ -41,391 +52,583 @@ abbrev μ-loop : tie.MeasureT-loop
 μ-loop point colour flags board slot₀ slot = slots - slot
 
 abbrev Inv-loop2 : tie.InvT-loop2
-Inv-loop2 point colour flags slot₀ beside count result₀ i₀ slot result i = Gathering result₀ point colour slot₀ (take count beside) i result slot
+Inv-loop2 point colour flags board₀ slot around stone₀ i₀ board stone i = Passed board₀ point colour (around .points) (around .count) board stone i
 
 abbrev μ-loop2 : tie.MeasureT-loop2
-μ-loop2 point colour flags slot₀ beside count result₀ i₀ slot result i = count - i
+μ-loop2 point colour flags board₀ slot around stone₀ i₀ board stone i = around .count - i
 
 abbrev Inv-loop3 : tie.InvT-loop3
-Inv-loop3 point colour flags slot beside count result₀ i enemy taken₀ prisoner₀ k₀ result taken prisoner k =
-    Taking result₀ enemy (take count beside) k result taken prisoner
+Inv-loop3 point colour flags board₀ slot₀ around i₀ board slot i = Gathering board₀ point colour slot₀ (points around) i board slot
 
 abbrev μ-loop3 : tie.MeasureT-loop3
-μ-loop3 point colour flags slot beside count result₀ i enemy taken₀ prisoner₀ k₀ result taken prisoner k = count - k
+μ-loop3 point colour flags board₀ slot₀ around i₀ board slot i = around .count - i
+
+abbrev Inv-loop4 : tie.InvT-loop4
+Inv-loop4 point colour flags board₀ slot around i₀ enemy taken₀ prisoner₀ board i taken prisoner =
+    Taking board₀ enemy (points around) i board taken prisoner
+
+abbrev μ-loop4 : tie.MeasureT-loop4
+μ-loop4 point colour flags board₀ slot around i₀ enemy taken₀ prisoner₀ board i taken prisoner = around .count - i
 
 -- what is read past the end of an array of chains
 abbrev past : Chain
 past = record { liberties = []; colour = 0; origin = 0; last = 0; count = 0 }
 
--- ---- The places of the code: at the search, after `neighbours`, at a point beside in the one loop and in the other, at the end
+-- ---- The places of the code: at the start, at the search, after `neighbours`, at the loop before the stone is put, once it is put, at a
+-- point beside in the loop that joins and in the one that takes, at the end
+
+abbrev Start : Type 0
+Start = tie.Start Inv-loop μ-loop Inv-loop2 μ-loop2 Inv-loop3 μ-loop3 Inv-loop4 μ-loop4
 
 abbrev Searching : Type 0
-Searching = tie.At-loop Inv-loop μ-loop Inv-loop2 μ-loop2 Inv-loop3 μ-loop3
+Searching = tie.At-loop Inv-loop μ-loop Inv-loop2 μ-loop2 Inv-loop3 μ-loop3 Inv-loop4 μ-loop4
 
 abbrev Near : Type 0
-Near = tie.After-neighbours Inv-loop μ-loop Inv-loop2 μ-loop2 Inv-loop3 μ-loop3
+Near = tie.After-neighbours Inv-loop μ-loop Inv-loop2 μ-loop2 Inv-loop3 μ-loop3 Inv-loop4 μ-loop4
+
+abbrev Passing : Type 0
+Passing = tie.At-loop2 Inv-loop μ-loop Inv-loop2 μ-loop2 Inv-loop3 μ-loop3 Inv-loop4 μ-loop4
+
+abbrev Put : Type 0
+Put = tie.After-index-zobrist Inv-loop μ-loop Inv-loop2 μ-loop2 Inv-loop3 μ-loop3 Inv-loop4 μ-loop4
+
+abbrev Joins : Type 0
+Joins = tie.At-loop3 Inv-loop μ-loop Inv-loop2 μ-loop2 Inv-loop3 μ-loop3 Inv-loop4 μ-loop4
 
 abbrev Turn : Type 0
-Turn = tie.After-index Inv-loop μ-loop Inv-loop2 μ-loop2 Inv-loop3 μ-loop3
+Turn = tie.After-owner-beside2 Inv-loop μ-loop Inv-loop2 μ-loop2 Inv-loop3 μ-loop3 Inv-loop4 μ-loop4
+
+abbrev Takes : Type 0
+Takes = tie.At-loop4 Inv-loop μ-loop Inv-loop2 μ-loop2 Inv-loop3 μ-loop3 Inv-loop4 μ-loop4
 
 abbrev Turn-2 : Type 0
-Turn-2 = tie.After-index3 Inv-loop μ-loop Inv-loop2 μ-loop2 Inv-loop3 μ-loop3
+Turn-2 = tie.After-owner-beside3 Inv-loop μ-loop Inv-loop2 μ-loop2 Inv-loop3 μ-loop3 Inv-loop4 μ-loop4
 
 abbrev End : Type 0
-End = tie.After-loop3 Inv-loop μ-loop Inv-loop2 μ-loop2 Inv-loop3 μ-loop3
+End = tie.Else7 Inv-loop μ-loop Inv-loop2 μ-loop2 Inv-loop3 μ-loop3 Inv-loop4 μ-loop4
 
 slot-low : (c : Searching) → c .loop .slot < slots
 slot-low c = search-low _ (c .before .pre .board) _ (c .loop .inv)
 
-abbrev points : Near → List ℕ
-points n = take (n .neighbours .result .count) (n .neighbours .result .points)
+-- what is given; the code changes its board in place, so that its name here is another
+abbrev first : Near → Start
+first n = n .before .before .before
 
-largest : (n : Near) → Largest (n .before .before .before .args .t1)
-largest n = n .before .before .before .pre .board .largest
+abbrev free : Near → ℕ
+free n = n .before .before .loop .slot
 
-putting :
-    (n : Near) →
-    let args = n .before .before .before .args in Putting (args .t1) (args .point) (args .colour) (n .before .before .loop .slot)
-putting n =
-    let start = n .before .before .before in
-    search-found _ (start .pre .board) _ (n .before .before .loop .inv) past _ _ _ (start .pre) (n .before .if1 .left)
+abbrev around : Near → Around
+around n = n .neighbours .result
 
-long : (n : Near) → length (points n) ≡ n .neighbours .result .count
-long n = ap length (n .neighbours .ensures .listed) ∙ n .neighbours .ensures .counted
+largest : (n : Near) → Largest (first n .args .t1)
+largest n = first n .pre .board .largest
 
-four : (n : Near) → length (n .neighbours .result .points) ≡ 4
+putting : (n : Near) → Putting (first n .args .t1) (first n .args .point) (first n .args .colour) (free n)
+putting n = search-found _ (first n .pre .board) _ (n .before .before .loop .inv) past _ _ _ (first n .pre) (n .before .if1 .left)
+
+fits : (n : Near) → first n .args .point < maxArea
+fits n = point-fits (putting n)
+
+few : (n : Near) → around n .count ≤ 4
+few n = n .neighbours .ensures .few
+
+listed : (n : Near) → points (around n) ≡ neighbours (first n .args .t1 .height) (first n .args .t1 .width) (first n .args .point)
+listed n = n .neighbours .ensures .listed
+
+long : (n : Near) → length (points (around n)) ≡ around n .count
+long n = ap length (listed n) ∙ n .neighbours .ensures .counted
+
+four : (n : Near) → length (around n .points) ≡ 4
 four n = search needs
 
-point-in :
-    (n : Near) (i q : ℕ) → i < n .neighbours .result .count → q ≡ getD (n .neighbours .result .points) i 0 → q < maxArea
-point-in n i q l e =
-    omega (
-      arith,
-      e,
-      beside-on _ _ _ (n .neighbours .result) (n .neighbours .ensures) (four n) i l,
-      area-fits (n .before .before .before .pre .board .table .size),
-    )
+-- a point beside, in the list of those that there are
+point-here : (n : Near) (i : ℕ) → i < around n .count → getD (around n .points) i 0 ≡ getD (points (around n)) i 0
+point-here n i l = sym (getD-take (around n .count) (around n .points) i 0 l)
 
-point-here :
-    (n : Near) (i q : ℕ) → i < n .neighbours .result .count → q ≡ getD (n .neighbours .result .points) i 0 → q ≡ getD (points n) i 0
-point-here n i q l e = e ∙ sym (getD-take (n .neighbours .result .count) (n .neighbours .result .points) i 0 l)
+-- the slot that owns it, as the code reads it
+owner-here : (b : Board) (q o : ℕ) → o ≡ getD (b .owners) q slots → o ≡ owner b q
+unfolding owner
+owner-here b q o e = e
+
+-- ---- Putting
+
+abbrev near-pass : Passing → Near
+near-pass c = c .before .before .before
+
+passed-long : (c : Passing) → length (c .loop2 .board .owners) ≡ maxArea
+passed-long c = passed-owners _ _ _ _ _ _ _ _ (c .loop2 .inv) ∙ first (near-pass c) .pre .board .table .shape .owners
+
+abbrev passes : Put → Passing
+passes c = c .before .before .before
+
+abbrev near-put : Put → Near
+near-put c = near-pass (passes c)
+
+abbrev start : Put → Board
+start c =
+    placed (passes c .loop2 .board) (first (near-put c) .args .point) (free (near-put c)) (c .index-zobrist .result) (passes c .loop2 .stone)
+
+is-put :
+    (c : Put) →
+    let args = first (near-put c) .args in start c ≡ put (args .t1) (args .point) (args .colour) (free (near-put c))
+is-put c =
+    let n = near-put c in
+    let args = first n .args in
+    passed-all _ _ _ _ _ _ _ _ (passes c .loop2 .inv) (c .before .if2 .left) (listed n) (free n) (c .index-zobrist .result)
+    (c .index-zobrist .ensures
+    ∙ ap (λ (t : Bool). cond t (stoneHash (args .point) (args .colour)) 0) (lt-ltb (args .point) maxArea (fits n)))
 
 -- ---- Joining
 
-abbrev near : Turn → Near
-near c = c .before .before .before .before .before
+abbrev joins-of : Turn → Joins
+joins-of c = c .before .before .before .before .before
 
-placed :
-    (c : Turn) →
-    let args = near c .before .before .before .args in
-    c .before .before .before .put-stone .result ≡ put (args .t1) (args .point) (args .colour) (near c .before .before .loop .slot)
-placed c = c .before .before .before .put-stone .ensures
+abbrev put-turn : Turn → Put
+put-turn c = joins-of c .before
+
+abbrev near : Turn → Near
+near c = near-put (put-turn c)
+
+in-turn : (c : Turn) → joins-of c .loop3 .i < around (near c) .count
+in-turn c = c .before .before .before .if4 .taken
 
 gathering :
     (c : Turn) →
-    let args = near c .before .before .before .args in
-    Gathering (c .before .before .before .put-stone .result) (args .point) (args .colour) (near c .before .before .loop .slot) (points (near c))
-    (c .before .before .loop2 .i) (c .before .before .loop2 .result) (c .before .before .loop2 .slot)
-gathering c = c .before .before .loop2 .inv
+    let args = first (near c) .args in
+    Gathering (start (put-turn c)) (args .point) (args .colour) (free (near c)) (points (around (near c)))
+    (joins-of c .loop3 .i) (joins-of c .loop3 .board) (joins-of c .loop3 .slot)
+gathering c = joins-of c .loop3 .inv
 
-listed :
-    (c : Turn) →
-    let args = near c .before .before .before .args in points (near c) ≡ neighbours (args .t1 .height) (args .t1 .width) (args .point)
-listed c = near c .neighbours .ensures .listed
+in-near : (c : Turn) → joins-of c .loop3 .i < length (points (around (near c)))
+in-near c = omega (arith, long (near c), in-turn c)
 
-in-near : (c : Turn) → c .before .before .loop2 .i < length (points (near c))
-in-near c = omega (arith, long (near c), c .before .loop2-test .taken)
+abbrev point : Turn → ℕ
+point c = getD (around (near c) .points) (joins-of c .loop3 .i) 0
 
-here : (c : Turn) → c .index .result ≡ getD (points (near c)) (c .before .before .loop2 .i) 0
-here c = point-here (near c) _ _ (c .before .loop2-test .taken) (c .index .ensures)
+here : (c : Turn) → point c ≡ getD (points (around (near c))) (joins-of c .loop3 .i) 0
+here c = point-here (near c) _ (in-turn c)
 
-point-on : (c : Turn) → c .index .result < maxArea
-point-on c = point-in (near c) _ _ (c .before .loop2-test .taken) (c .index .ensures)
+its : (c : Turn) → c .owner-beside2 .result ≡ owner (joins-of c .loop3 .board) (point c)
+its c = owner-here _ _ _ (c .owner-beside2 .ensures)
 
-its : (c : tie.After-index2 Inv-loop μ-loop Inv-loop2 μ-loop2 Inv-loop3 μ-loop3) → c .index2 .result ≡ owner (c .before .before .before .before .loop2 .result) (c .before .before .index .result)
-its c = c .index2 .ensures ∙ owner-read _ (gathering (c .before .before) .so-far .table) _ (point-on (c .before .before))
+-- the two chains that are to be joined
+joining :
+    (c : tie.Then6 Inv-loop μ-loop Inv-loop2 μ-loop2 Inv-loop3 μ-loop3 Inv-loop4 μ-loop4) →
+    let turn = c .before .before .before .before in
+    Joining (joins-of turn .loop3 .board) (turn .owner-beside2 .result) (joins-of turn .loop3 .slot)
+joining c =
+    let turn = c .before .before .before .before in
+    gathering-joining _ (largest (near turn)) _ _ _ (putting (near turn)) _ (is-put (put-turn turn)) _ (listed (near turn)) _ _ _ (gathering turn)
+    (in-near turn) _ (here turn) _ (its turn) past (c .before .before .before .if5 .taken) _ (c .before .joins .ensures) (c .if6 .taken)
 
 -- ---- Taking
 
-enemy : (c : tie.After-other Inv-loop μ-loop Inv-loop2 μ-loop2 Inv-loop3 μ-loop3) → Player (c .other .result)
-enemy c = subst Player (sym (c .other .ensures)) (other-player _ (c .before .before .before .before .before .before .before .before .pre .player))
+enemy : (c : tie.After-other Inv-loop μ-loop Inv-loop2 μ-loop2 Inv-loop3 μ-loop3 Inv-loop4 μ-loop4) → Player (c .other .result)
+enemy c = subst Player (sym (c .other .ensures)) (other-player _ (first (near-put (c .before .before .before .before)) .pre .player))
 
-foe : (c : Turn-2) → Player (c .before .before .before .other .result)
-foe c = enemy (c .before .before .before)
+abbrev takes-of : Turn-2 → Takes
+takes-of c = c .before .before .before .before .before
+
+abbrev joins-end : Takes → Joins
+joins-end c = c .before .before .before .before
+
+abbrev near-take : Takes → Near
+near-take c = near-put (joins-end c .before)
 
 abbrev near-2 : Turn-2 → Near
-near-2 c = c .before .before .before .before .before .before .before .before
+near-2 c = near-take (takes-of c)
+
+in-turn-2 : (c : Turn-2) → takes-of c .loop4 .i < around (near-2 c) .count
+in-turn-2 c = c .before .before .before .if7 .taken
 
 taking :
     (c : Turn-2) →
-    Taking (c .before .before .before .before .before .loop2 .result) (c .before .before .before .other .result) (points (near-2 c))
-    (c .before .before .loop3 .k) (c .before .before .loop3 .result) (c .before .before .loop3 .taken) (c .before .before .loop3 .prisoner)
-taking c = c .before .before .loop3 .inv
+    let loop = takes-of c in
+    Taking (joins-end loop .loop3 .board) (loop .before .other .result) (points (around (near-2 c)))
+    (loop .loop4 .i) (loop .loop4 .board) (loop .loop4 .taken) (loop .loop4 .prisoner)
+taking c = takes-of c .loop4 .inv
 
-in-near-2 : (c : Turn-2) → c .before .before .loop3 .k < length (points (near-2 c))
-in-near-2 c = omega (arith, long (near-2 c), c .before .loop3-test .taken)
+in-near-2 : (c : Turn-2) → takes-of c .loop4 .i < length (points (around (near-2 c)))
+in-near-2 c = omega (arith, long (near-2 c), in-turn-2 c)
 
-here-2 : (c : Turn-2) → c .index3 .result ≡ getD (points (near-2 c)) (c .before .before .loop3 .k) 0
-here-2 c = point-here (near-2 c) _ _ (c .before .loop3-test .taken) (c .index3 .ensures)
+abbrev point-2 : Turn-2 → ℕ
+point-2 c = getD (around (near-2 c) .points) (takes-of c .loop4 .i) 0
 
-point-on-2 : (c : Turn-2) → c .index3 .result < maxArea
-point-on-2 c = point-in (near-2 c) _ _ (c .before .loop3-test .taken) (c .index3 .ensures)
+here-2 : (c : Turn-2) → point-2 c ≡ getD (points (around (near-2 c))) (takes-of c .loop4 .i) 0
+here-2 c = point-here (near-2 c) _ (in-turn-2 c)
 
-its-2 : (c : tie.After-index4 Inv-loop μ-loop Inv-loop2 μ-loop2 Inv-loop3 μ-loop3) → c .index4 .result ≡ owner (c .before .before .before .before .loop3 .result) (c .before .before .index3 .result)
-its-2 c = c .index4 .ensures ∙ owner-read _ (taking (c .before .before) .table) _ (point-on-2 (c .before .before))
+its-2 : (c : Turn-2) → c .owner-beside3 .result ≡ owner (takes-of c .loop4 .board) (point-2 c)
+its-2 c = owner-here _ _ _ (c .owner-beside3 .ensures)
 
 -- ---- The end
 
-abbrev near-end : End → Near
-near-end c = c .before .before .before .before .before .before .before
+abbrev takes-end : End → Takes
+takes-end c = c .before .before
 
-abbrev start-end : End → Board
-start-end c = c .before .before .before .before .before .put-stone .result
+abbrev put-end : End → Put
+put-end c = joins-end (takes-end c) .before
+
+abbrev near-end : End → Near
+near-end c = near-put (put-end c)
+
+-- the board with the stone joined and its slot then, and the board with the dead enemy lifted
+abbrev whole : End → Board
+whole c = joins-end (takes-end c) .loop3 .board
+
+abbrev mine : End → ℕ
+mine c = joins-end (takes-end c) .loop3 .slot
+
+abbrev after : End → Board
+after c = takes-end c .loop4 .board
 
 gathered :
     (c : End) →
-    let args = near-end c .before .before .before .args in
-    joinAll (args .colour) (points (near-end c)) (start-end c) (near-end c .before .before .loop .slot)
-    ≡ record { board = c .before .before .before .before .loop2 .result; slot = c .before .before .before .before .loop2 .slot }
+    joinAll (first (near-end c) .args .colour) (points (around (near-end c))) (start (put-end c)) (free (near-end c))
+    ≡ record { board = whole c; slot = mine c }
 gathered c =
-    let joins = c .before .before .before in
-    gathering-all _ (largest (near-end c)) _ _ _ (putting (near-end c)) _ (joins .before .before .put-stone .ensures) _
-    (near-end c .neighbours .ensures .listed) _ _ _ (joins .before .loop2 .inv) (omega (arith, long (near-end c), joins .loop2-test .left))
+    gathering-all _ (largest (near-end c)) _ _ _ (putting (near-end c)) _ (is-put (put-end c)) _ (listed (near-end c)) _ _ _
+    (joins-end (takes-end c) .loop3 .inv) (omega (arith, long (near-end c), takes-end c .before .before .if4 .left))
 
 taken-all :
     (c : End) →
-    let args = near-end c .before .before .before .args in
-    takeAll (colours.other (args .colour)) (points (near-end c))
-    (record { board = c .before .before .before .before .loop2 .result; stones = 0; point = 0 })
-    ≡ record { board = c .before .loop3 .result; stones = c .before .loop3 .taken; point = c .before .loop3 .prisoner }
+    takeAll (other (first (near-end c) .args .colour)) (points (around (near-end c))) (record { board = whole c; stones = 0; point = 0 })
+    ≡ record { board = after c; stones = takes-end c .loop4 .taken; point = takes-end c .loop4 .prisoner }
 taken-all c =
     sym
-    (ap (λ (f : ℕ). takeAll f (points (near-end c)) (record { board = c .before .before .before .before .loop2 .result; stones = 0; point = 0 }))
-    (c .before .before .other .ensures))
-    ∙ taking-all _ _ _ (enemy (c .before .before)) _ _ _ _ (c .before .loop3 .inv) (omega (arith, long (near-end c), c .loop3-test .left))
+    (ap (λ (f : ℕ). takeAll f (points (around (near-end c))) (record { board = whole c; stones = 0; point = 0 }))
+    (takes-end c .before .other .ensures))
+    ∙ taking-all _ _ _ (enemy (takes-end c .before)) _ _ _ _ (takes-end c .loop4 .inv) (omega (arith, long (near-end c), c .if7 .left))
 
-ended-low : (c : End) → c .before .before .before .before .loop2 .slot < slots
+ended-low : (c : End) → mine c < slots
 ended-low c =
-    end-low _ _ _ _ _ (near-end c .before .before .before .pre) (putting (near-end c)) _ (c .before .before .before .before .before .put-stone .ensures) _
-    (near-end c .neighbours .ensures .listed) _ _ (gathered c) _ _ _ (taken-all c)
+    end-low _ _ _ _ _ (first (near-end c) .pre) (putting (near-end c)) _ (is-put (put-end c)) _ (listed (near-end c)) _ _ (gathered c) _ _ _
+    (taken-all c)
 
-ended-used : (c : End) → used (chainIn (c .before .loop3 .result) (c .before .before .before .before .loop2 .slot)) ≡ true
+ended-used : (c : End) → used (chainIn (after c) (mine c)) ≡ true
 ended-used c =
-    end-used _ _ _ _ _ (near-end c .before .before .before .pre) (putting (near-end c)) _ (c .before .before .before .before .before .put-stone .ensures) _
-    (near-end c .neighbours .ensures .listed) _ _ (gathered c) _ _ _ (taken-all c)
+    end-used _ _ _ _ _ (first (near-end c) .pre) (putting (near-end c)) _ (is-put (put-end c)) _ (listed (near-end c)) _ _ (gathered c) _ _ _
+    (taken-all c)
+
+ended-entry : (c : End) → getD (after c .chains) (mine c) past ≡ chainIn (after c) (mine c)
+ended-entry c = entry _ (takes-end c .loop4 .inv .table) past _ (ended-low c)
 
 lost-test :
     (c : End) →
-    let after = c .before .loop3 .result in
-    let t = c .before .before .before .before .loop2 .slot in
-    let flags = near-end c .before .before .before .args .flags in
-    getD (after .chains) t past ≡ chainIn after t →
-    not (forbids flags SUICIDE) && dead after t ≡ not (forbids flags SUICIDE) && eqb (number (getD (after .chains) t past .liberties)) 0
+    let keep = forbids (first (near-end c) .args .flags) SUICIDE in
+    not keep && dead (after c) (mine c) ≡ not keep && eqb (number (getD (after c .chains) (mine c) past .liberties)) 0
 unfolding dead
-lost-test c own =
-    sym (ap (λ (x : Chain). not (forbids (near-end c .before .before .before .args .flags) SUICIDE) && eqb (number (x .liberties)) 0) own)
+lost-test c =
+    sym (ap (λ (x : Chain). not (forbids (first (near-end c) .args .flags) SUICIDE) && eqb (number (x .liberties)) 0) (ended-entry c))
 
 ended :
     (c : End) →
-    let args = near-end c .before .before .before .args in
-    let after = c .before .loop3 .result in
-    let t = c .before .before .before .before .loop2 .slot in
-    (r : code.Laid) (gone : Bool) → not (forbids (args .flags) SUICIDE) && dead after t ≡ gone → r .board ≡ cond gone (remove after t) after →
-    r .taken ≡ c .before .loop3 .taken → r .lost ≡ cond gone (chainIn after t .count) 0 →
-    placeOf (r .ko) ≡ cond (eqb (c .before .loop3 .taken) 1) (some (c .before .loop3 .prisoner)) none →
+    let args = first (near-end c) .args in
+    (r : code.Laid) (gone : Bool) → not (forbids (args .flags) SUICIDE) && dead (after c) (mine c) ≡ gone →
+    r .board ≡ cond gone (remove (after c) (mine c)) (after c) → r .taken ≡ takes-end c .loop4 .taken →
+    r .lost ≡ cond gone (chainIn (after c) (mine c) .count) 0 →
+    placeOf (r .ko) ≡ cond (eqb (takes-end c .loop4 .taken) 1) (some (takes-end c .loop4 .prisoner)) none →
     LaidOut (args .t1) (args .point) (args .colour) (args .flags) r
 ended c =
-    laid-out _ _ _ _ _ (near-end c .before .before .before .pre) (putting (near-end c)) _ (c .before .before .before .before .before .put-stone .ensures) _
-    (near-end c .neighbours .ensures .listed) _ _ (gathered c) _ _ _ (taken-all c)
+    laid-out _ _ _ _ _ (first (near-end c) .pre) (putting (near-end c)) _ (is-put (put-end c)) _ (listed (near-end c)) _ _ (gathered c) _ _ _
+    (taken-all c)
 
-loop-holds : tie.Need-loop-holds Inv-loop μ-loop Inv-loop2 μ-loop2 Inv-loop3 μ-loop3
+-- ---- The needs
+
+loop-holds : tie.Need-loop-holds Inv-loop μ-loop Inv-loop2 μ-loop2 Inv-loop3 μ-loop3 Inv-loop4 μ-loop4
 loop-holds c = refl
 
-mul-if1 : tie.Need-mul-if1 Inv-loop μ-loop Inv-loop2 μ-loop2 Inv-loop3 μ-loop3
+mul-if1 : tie.Need-mul-if1 Inv-loop μ-loop Inv-loop2 μ-loop2 Inv-loop3 μ-loop3 Inv-loop4 μ-loop4
 mul-if1 c = let low = slot-low c in omega arith
 
-element-copy-out-if1 : tie.Need-element-copy-out-if1 Inv-loop μ-loop Inv-loop2 μ-loop2 Inv-loop3 μ-loop3
+element-copy-out-if1 : tie.Need-element-copy-out-if1 Inv-loop μ-loop Inv-loop2 μ-loop2 Inv-loop3 μ-loop3 Inv-loop4 μ-loop4
 element-copy-out-if1 c = slot-low c
 
-add-slot : tie.Need-add-slot Inv-loop μ-loop Inv-loop2 μ-loop2 Inv-loop3 μ-loop3
+add-slot : tie.Need-add-slot Inv-loop μ-loop Inv-loop2 μ-loop2 Inv-loop3 μ-loop3 Inv-loop4 μ-loop4
 add-slot c = let low = slot-low (c .before) in omega arith
 
-loop-less : tie.Need-loop-less Inv-loop μ-loop Inv-loop2 μ-loop2 Inv-loop3 μ-loop3
+loop-less : tie.Need-loop-less Inv-loop μ-loop Inv-loop2 μ-loop2 Inv-loop3 μ-loop3 Inv-loop4 μ-loop4
 loop-less c = let low = slot-low (c .before) in omega arith
 
-loop-again : tie.Need-loop-again Inv-loop μ-loop Inv-loop2 μ-loop2 Inv-loop3 μ-loop3
+loop-again : tie.Need-loop-again Inv-loop μ-loop Inv-loop2 μ-loop2 Inv-loop3 μ-loop3 Inv-loop4 μ-loop4
 loop-again c = search-next _ (c .before .before .pre .board) _ (c .before .loop .inv) _ (c .if1 .taken)
 
-neighbours-requires : tie.Need-neighbours-requires Inv-loop μ-loop Inv-loop2 μ-loop2 Inv-loop3 μ-loop3
+neighbours-requires : tie.Need-neighbours-requires Inv-loop μ-loop Inv-loop2 μ-loop2 Inv-loop3 μ-loop3 Inv-loop4 μ-loop4
 neighbours-requires c κs = search needs
 
-put-stone-requires : tie.Need-put-stone-requires Inv-loop μ-loop Inv-loop2 μ-loop2 Inv-loop3 μ-loop3
-put-stone-requires c κs = putting (c .before)
+cast-new-chain : tie.Need-cast-new-chain Inv-loop μ-loop Inv-loop2 μ-loop2 Inv-loop3 μ-loop3 Inv-loop4 μ-loop4
+cast-new-chain c = omega (arith, fits c)
 
-loop2-holds : tie.Need-loop2-holds Inv-loop μ-loop Inv-loop2 μ-loop2 Inv-loop3 μ-loop3
-loop2-holds c = gathering-none _ (largest (c .before .before)) _ _ _ (putting (c .before .before)) _ (c .put-stone .ensures) _ (c .before .before .neighbours .ensures .listed)
+empty-liberties-requires : tie.Need-empty-liberties-requires Inv-loop μ-loop Inv-loop2 μ-loop2 Inv-loop3 μ-loop3 Inv-loop4 μ-loop4
+empty-liberties-requires c κs = search needs
 
-mul-index : tie.Need-mul-index Inv-loop μ-loop Inv-loop2 μ-loop2 Inv-loop3 μ-loop3
-mul-index c = let few = c .before .before .before .before .neighbours .ensures .few in omega arith
+new-chain-requires : tie.Need-new-chain-requires Inv-loop μ-loop Inv-loop2 μ-loop2 Inv-loop3 μ-loop3 Inv-loop4 μ-loop4
+new-chain-requires c κs = search needs
 
-array-read-index : tie.Need-array-read-index Inv-loop μ-loop Inv-loop2 μ-loop2 Inv-loop3 μ-loop3
-array-read-index c = let few = c .before .before .before .before .neighbours .ensures .few in omega arith
+loop2-holds : tie.Need-loop2-holds Inv-loop μ-loop Inv-loop2 μ-loop2 Inv-loop3 μ-loop3 Inv-loop4 μ-loop4
+loop2-holds c =
+    let args = first (c .before .before) .args in
+    record {
+      within = omega arith;
+      lost = refl;
+      found = c .new-chain .ensures ∙ ap (newChain (args .colour) (args .point)) (c .before .empty-liberties .ensures);
+    }
 
-index-requires : tie.Need-index-requires Inv-loop μ-loop Inv-loop2 μ-loop2 Inv-loop3 μ-loop3
-index-requires c κs = search needs
+owner-beside-requires : tie.Need-owner-beside-requires Inv-loop μ-loop Inv-loop2 μ-loop2 Inv-loop3 μ-loop3 Inv-loop4 μ-loop4
+owner-beside-requires c κs =
+    let loop = c .before .before .before .before in (passed-long loop, omega (arith, few (near-pass loop), c .before .before .if2 .taken))
 
-mul-index-2 : tie.Need-mul-index-2 Inv-loop μ-loop Inv-loop2 μ-loop2 Inv-loop3 μ-loop3
-mul-index-2 c = let on = point-on c in omega arith
+point-beside-requires : tie.Need-point-beside-requires Inv-loop μ-loop Inv-loop2 μ-loop2 Inv-loop3 μ-loop3 Inv-loop4 μ-loop4
+point-beside-requires c κs = omega (arith, few (near-pass (c .before .before .before .before .before)), c .before .before .before .if2 .taken)
 
-element-copy-out-index : tie.Need-element-copy-out-index Inv-loop μ-loop Inv-loop2 μ-loop2 Inv-loop3 μ-loop3
-element-copy-out-index c = point-on c
+opened-requires : tie.Need-opened-requires Inv-loop μ-loop Inv-loop2 μ-loop2 Inv-loop3 μ-loop3 Inv-loop4 μ-loop4
+opened-requires c κs = search needs
 
-index-requires-2 : tie.Need-index-requires-2 Inv-loop μ-loop Inv-loop2 μ-loop2 Inv-loop3 μ-loop3
-index-requires-2 c κs = search needs
+add-i : tie.Need-add-i Inv-loop μ-loop Inv-loop2 μ-loop2 Inv-loop3 μ-loop3 Inv-loop4 μ-loop4
+add-i c = omega (arith, few (near-pass (c .before .before .before .before .before .before .before)), c .before .before .before .before .before .if2 .taken)
 
-add-i : tie.Need-add-i Inv-loop μ-loop Inv-loop2 μ-loop2 Inv-loop3 μ-loop3
-add-i c = let few = c .before .before .before .before .before .before .before .neighbours .ensures .few in omega arith
+mul-without : tie.Need-mul-without Inv-loop μ-loop Inv-loop2 μ-loop2 Inv-loop3 μ-loop3 Inv-loop4 μ-loop4
+mul-without c = omega arith
 
-mul-chain : tie.Need-mul-chain Inv-loop μ-loop Inv-loop2 μ-loop2 Inv-loop3 μ-loop3
+element-copy-out-without : tie.Need-element-copy-out-without Inv-loop μ-loop Inv-loop2 μ-loop2 Inv-loop3 μ-loop3 Inv-loop4 μ-loop4
+element-copy-out-without c = c .if3 .taken
+
+without-requires : tie.Need-without-requires Inv-loop μ-loop Inv-loop2 μ-loop2 Inv-loop3 μ-loop3 Inv-loop4 μ-loop4
+without-requires c κs = search needs
+
+mul-chain : tie.Need-mul-chain Inv-loop μ-loop Inv-loop2 μ-loop2 Inv-loop3 μ-loop3 Inv-loop4 μ-loop4
 mul-chain c = omega arith
 
-element-copy-out-chain : tie.Need-element-copy-out-chain Inv-loop μ-loop Inv-loop2 μ-loop2 Inv-loop3 μ-loop3
-element-copy-out-chain c = omega arith
+element-set-from-chain : tie.Need-element-set-from-chain Inv-loop μ-loop Inv-loop2 μ-loop2 Inv-loop3 μ-loop3 Inv-loop4 μ-loop4
+element-set-from-chain c = c .before .before .if3 .taken
 
-joins-requires : tie.Need-joins-requires Inv-loop μ-loop Inv-loop2 μ-loop2 Inv-loop3 μ-loop3
-joins-requires c κs = search needs
-
-join-requires : tie.Need-join-requires Inv-loop μ-loop Inv-loop2 μ-loop2 Inv-loop3 μ-loop3
-join-requires c κs =
-    gathering-joining _ (largest (near (c .before .before .before .before .before .before))) _ _ _ (putting (near (c .before .before .before .before .before .before))) _ (placed (c .before .before .before .before .before .before)) _ (listed (c .before .before .before .before .before .before)) _ _ _ (gathering (c .before .before .before .before .before .before)) (in-near (c .before .before .before .before .before .before)) _ (here (c .before .before .before .before .before .before)) _ (its (c .before .before .before .before))
-    past (c .before .before .before .if2 .taken) (sym (c .before .joins .ensures) ∙ c .if3 .taken)
-
-loop2-less : tie.Need-loop2-less Inv-loop μ-loop Inv-loop2 μ-loop2 Inv-loop3 μ-loop3
+loop2-less : tie.Need-loop2-less Inv-loop μ-loop Inv-loop2 μ-loop2 Inv-loop3 μ-loop3 Inv-loop4 μ-loop4
 loop2-less c = omega arith
 
-loop2-again : tie.Need-loop2-again Inv-loop μ-loop Inv-loop2 μ-loop2 Inv-loop3 μ-loop3
+loop2-again : tie.Need-loop2-again Inv-loop μ-loop Inv-loop2 μ-loop2 Inv-loop3 μ-loop3 Inv-loop4 μ-loop4
 loop2-again c =
-    gathering-join _ (largest (near (c .before .before .before .before .before .before .before))) _ _ _ (putting (near (c .before .before .before .before .before .before .before))) _ (placed (c .before .before .before .before .before .before .before)) _ (listed (c .before .before .before .before .before .before .before)) _ _ _ (gathering (c .before .before .before .before .before .before .before)) (in-near (c .before .before .before .before .before .before .before)) _ (here (c .before .before .before .before .before .before .before)) _ (its (c .before .before .before .before .before))
-    past (c .before .before .before .before .if2 .taken) (sym (c .before .before .joins .ensures) ∙ c .before .if3 .taken) _ (c .join .ensures)
+    let turn = c .before .before .before in
+    let loop = turn .before .before .before .before .before .before .before in
+    let n = near-pass loop in
+    let test = turn .before .before .before .before .before .if2 .taken in
+    passed-owned _ _ _ _ _ _ _ _ (loop .loop2 .inv) test (omega (arith, four n, few n, test))
+    _ (turn .before .before .owner-beside .ensures) _ (turn .before .point-beside .ensures) _ (turn .opened .ensures)
+    (first n .pre .board .table .shape .chains) (c .before .before .if3 .taken) past _ (c .without .ensures)
 
-loop2-less-2 : tie.Need-loop2-less-2 Inv-loop μ-loop Inv-loop2 μ-loop2 Inv-loop3 μ-loop3
+loop2-less-2 : tie.Need-loop2-less-2 Inv-loop μ-loop Inv-loop2 μ-loop2 Inv-loop3 μ-loop3 Inv-loop4 μ-loop4
 loop2-less-2 c = omega arith
 
-loop2-again-2 : tie.Need-loop2-again-2 Inv-loop μ-loop Inv-loop2 μ-loop2 Inv-loop3 μ-loop3
+loop2-again-2 : tie.Need-loop2-again-2 Inv-loop μ-loop Inv-loop2 μ-loop2 Inv-loop3 μ-loop3 Inv-loop4 μ-loop4
 loop2-again-2 c =
-    gathering-other _ (largest (near (c .before .before .before .before .before .before))) _ _ _ (putting (near (c .before .before .before .before .before .before))) _ (placed (c .before .before .before .before .before .before)) _ (listed (c .before .before .before .before .before .before)) _ _ _ (gathering (c .before .before .before .before .before .before)) (in-near (c .before .before .before .before .before .before)) _ (here (c .before .before .before .before .before .before)) _ (its (c .before .before .before .before))
-    past (c .before .before .before .if2 .taken) (sym (c .before .joins .ensures) ∙ c .if3 .left)
+    let turn = c .before in
+    let loop = turn .before .before .before .before .before .before .before in
+    let n = near-pass loop in
+    let test = turn .before .before .before .before .before .if2 .taken in
+    passed-unowned _ _ _ _ _ _ _ _ (loop .loop2 .inv) test (omega (arith, four n, few n, test))
+    _ (turn .before .before .owner-beside .ensures) _ (turn .before .point-beside .ensures) _ (turn .opened .ensures)
+    (first n .pre .board .table .shape .chains) (c .if3 .left)
 
-loop2-less-3 : tie.Need-loop2-less-3 Inv-loop μ-loop Inv-loop2 μ-loop2 Inv-loop3 μ-loop3
-loop2-less-3 c = omega arith
+cast-board : tie.Need-cast-board Inv-loop μ-loop Inv-loop2 μ-loop2 Inv-loop3 μ-loop3 Inv-loop4 μ-loop4
+cast-board c = omega (arith, putting (near-pass (c .before .before)) .within)
 
-loop2-again-3 : tie.Need-loop2-again-3 Inv-loop μ-loop Inv-loop2 μ-loop2 Inv-loop3 μ-loop3
-loop2-again-3 c =
-    gathering-unowned _ (largest (near (c .before .before .before))) _ _ _ (putting (near (c .before .before .before))) _ (placed (c .before .before .before)) _ (listed (c .before .before .before)) _ _ _ (gathering (c .before .before .before)) (in-near (c .before .before .before)) _ (here (c .before .before .before)) _ (its (c .before)) (c .if2 .left)
+mul-board : tie.Need-mul-board Inv-loop μ-loop Inv-loop2 μ-loop2 Inv-loop3 μ-loop3 Inv-loop4 μ-loop4
+mul-board c = omega (arith, fits (near-pass (c .before .before)))
 
-other-requires : tie.Need-other-requires Inv-loop μ-loop Inv-loop2 μ-loop2 Inv-loop3 μ-loop3
-other-requires c κs = search needs
+element-write-board : tie.Need-element-write-board Inv-loop μ-loop Inv-loop2 μ-loop2 Inv-loop3 μ-loop3 Inv-loop4 μ-loop4
+element-write-board c = fits (near-pass (c .before .before))
 
-loop3-holds : tie.Need-loop3-holds Inv-loop μ-loop Inv-loop2 μ-loop2 Inv-loop3 μ-loop3
-loop3-holds c = taking-none _ _ _ (enemy c) (c .before .before .loop2 .inv .so-far .table)
+cast-board-2 : tie.Need-cast-board-2 Inv-loop μ-loop Inv-loop2 μ-loop2 Inv-loop3 μ-loop3 Inv-loop4 μ-loop4
+cast-board-2 c = omega (arith, fits (near-pass (c .before .before)))
 
-mul-index-3 : tie.Need-mul-index-3 Inv-loop μ-loop Inv-loop2 μ-loop2 Inv-loop3 μ-loop3
-mul-index-3 c = let few = c .before .before .before .before .before .before .before .neighbours .ensures .few in omega arith
+mul-board-2 : tie.Need-mul-board-2 Inv-loop μ-loop Inv-loop2 μ-loop2 Inv-loop3 μ-loop3 Inv-loop4 μ-loop4
+mul-board-2 c = omega (arith, fits (near-pass (c .before .before)))
 
-array-read-index-2 : tie.Need-array-read-index-2 Inv-loop μ-loop Inv-loop2 μ-loop2 Inv-loop3 μ-loop3
-array-read-index-2 c = let few = c .before .before .before .before .before .before .before .neighbours .ensures .few in omega arith
+element-write-board-2 : tie.Need-element-write-board-2 Inv-loop μ-loop Inv-loop2 μ-loop2 Inv-loop3 μ-loop3 Inv-loop4 μ-loop4
+element-write-board-2 c = fits (near-pass (c .before .before))
 
-index-requires-3 : tie.Need-index-requires-3 Inv-loop μ-loop Inv-loop2 μ-loop2 Inv-loop3 μ-loop3
-index-requires-3 c κs = search needs
+index-zobrist-requires : tie.Need-index-zobrist-requires Inv-loop μ-loop Inv-loop2 μ-loop2 Inv-loop3 μ-loop3 Inv-loop4 μ-loop4
+index-zobrist-requires c κs = search needs
 
-mul-index-4 : tie.Need-mul-index-4 Inv-loop μ-loop Inv-loop2 μ-loop2 Inv-loop3 μ-loop3
-mul-index-4 c = let on = point-on-2 c in omega arith
+mul-stone : tie.Need-mul-stone Inv-loop μ-loop Inv-loop2 μ-loop2 Inv-loop3 μ-loop3 Inv-loop4 μ-loop4
+mul-stone c = omega (arith, putting (near-put c) .within)
 
-element-copy-out-index-2 : tie.Need-element-copy-out-index-2 Inv-loop μ-loop Inv-loop2 μ-loop2 Inv-loop3 μ-loop3
-element-copy-out-index-2 c = point-on-2 c
+element-set-from-stone : tie.Need-element-set-from-stone Inv-loop μ-loop Inv-loop2 μ-loop2 Inv-loop3 μ-loop3 Inv-loop4 μ-loop4
+element-set-from-stone c = putting (near-put c) .within
 
-index-requires-4 : tie.Need-index-requires-4 Inv-loop μ-loop Inv-loop2 μ-loop2 Inv-loop3 μ-loop3
-index-requires-4 c κs = search needs
+loop3-holds : tie.Need-loop3-holds Inv-loop μ-loop Inv-loop2 μ-loop2 Inv-loop3 μ-loop3 Inv-loop4 μ-loop4
+loop3-holds c = gathering-none _ (largest (near-put c)) _ _ _ (putting (near-put c)) _ (is-put c) _ (listed (near-put c))
 
-add-k : tie.Need-add-k Inv-loop μ-loop Inv-loop2 μ-loop2 Inv-loop3 μ-loop3
-add-k c = let few = c .before .before .before .before .before .before .before .before .before .before .neighbours .ensures .few in omega arith
+owner-beside-requires-2 : tie.Need-owner-beside-requires-2 Inv-loop μ-loop Inv-loop2 μ-loop2 Inv-loop3 μ-loop3 Inv-loop4 μ-loop4
+owner-beside-requires-2 c κs =
+    let loop = c .before .before .before .before in (loop .loop3 .inv .so-far .table .shape .owners, omega (arith, few (near-put (loop .before)), c .before .before .if4 .taken))
 
-mul-chain-2 : tie.Need-mul-chain-2 Inv-loop μ-loop Inv-loop2 μ-loop2 Inv-loop3 μ-loop3
-mul-chain-2 c = omega arith
+add-i-2 : tie.Need-add-i-2 Inv-loop μ-loop Inv-loop2 μ-loop2 Inv-loop3 μ-loop3 Inv-loop4 μ-loop4
+add-i-2 c = omega (arith, few (near c), in-turn c)
 
-element-copy-out-chain-2 : tie.Need-element-copy-out-chain-2 Inv-loop μ-loop Inv-loop2 μ-loop2 Inv-loop3 μ-loop3
-element-copy-out-chain-2 c = omega arith
+mul-a : tie.Need-mul-a Inv-loop μ-loop Inv-loop2 μ-loop2 Inv-loop3 μ-loop3 Inv-loop4 μ-loop4
+mul-a c = omega arith
 
-is-captured-requires : tie.Need-is-captured-requires Inv-loop μ-loop Inv-loop2 μ-loop2 Inv-loop3 μ-loop3
-is-captured-requires c κs = search needs
+element-copy-out-a : tie.Need-element-copy-out-a Inv-loop μ-loop Inv-loop2 μ-loop2 Inv-loop3 μ-loop3 Inv-loop4 μ-loop4
+element-copy-out-a c = c .if5 .taken
 
-remove-chain-requires : tie.Need-remove-chain-requires Inv-loop μ-loop Inv-loop2 μ-loop2 Inv-loop3 μ-loop3
-remove-chain-requires c κs =
-    taking-removing _ _ _ (foe (c .before .before .before .before .before .before)) _ _ _ _ (taking (c .before .before .before .before .before .before)) (in-near-2 (c .before .before .before .before .before .before)) _ (here-2 (c .before .before .before .before .before .before)) _ (its-2 (c .before .before .before .before))
-    past (c .before .before .before .if4 .taken) (sym (c .before .is-captured .ensures) ∙ c .if5 .taken)
+joins-requires : tie.Need-joins-requires Inv-loop μ-loop Inv-loop2 μ-loop2 Inv-loop3 μ-loop3 Inv-loop4 μ-loop4
+joins-requires c κs = search needs
 
-add-taken : tie.Need-add-taken Inv-loop μ-loop Inv-loop2 μ-loop2 Inv-loop3 μ-loop3
-add-taken c =
-    let some = taking-few _ _ _ (foe (c .before .before .before .before .before .before .before .before)) _ _ _ _ (taking (c .before .before .before .before .before .before .before .before)) (in-near-2 (c .before .before .before .before .before .before .before .before)) _ (here-2 (c .before .before .before .before .before .before .before .before)) _ (its-2 (c .before .before .before .before .before .before))
-    past (c .before .before .before .before .before .if4 .taken) (sym (c .before .before .before .is-captured .ensures) ∙ c .before .before .if5 .taken) in
-    let before = taking (c .before .before .before .before .before .before .before .before) .few in
-    let few = c .before .before .before .before .before .before .before .before .before .before .before .before .before .before .before .before .neighbours .ensures .few in
-    let turn = c .before .before .before .before .before .before .before .before .before .loop3-test .taken in
-    omega arith
+mul-b : tie.Need-mul-b Inv-loop μ-loop Inv-loop2 μ-loop2 Inv-loop3 μ-loop3 Inv-loop4 μ-loop4
+mul-b c = let low = joining c .from-low in omega arith
 
-index-requires-5 : tie.Need-index-requires-5 Inv-loop μ-loop Inv-loop2 μ-loop2 Inv-loop3 μ-loop3
-index-requires-5 c κs = search needs
+element-copy-out-b : tie.Need-element-copy-out-b Inv-loop μ-loop Inv-loop2 μ-loop2 Inv-loop3 μ-loop3 Inv-loop4 μ-loop4
+element-copy-out-b c = joining c .from-low
 
-loop3-less : tie.Need-loop3-less Inv-loop μ-loop Inv-loop2 μ-loop2 Inv-loop3 μ-loop3
+own-requires : tie.Need-own-requires Inv-loop μ-loop Inv-loop2 μ-loop2 Inv-loop3 μ-loop3 Inv-loop4 μ-loop4
+own-requires c κs =
+    let two = c .before .before .before .before in (joined-walk _ _ _ (joining two) past, let low = joining two .to-low in omega arith)
+
+relink-requires : tie.Need-relink-requires Inv-loop μ-loop Inv-loop2 μ-loop2 Inv-loop3 μ-loop3 Inv-loop4 μ-loop4
+relink-requires c κs = joined-links _ _ _ (joining (c .before .before .before .before .before .before)) past
+
+free-chain-requires : tie.Need-free-chain-requires Inv-loop μ-loop Inv-loop2 μ-loop2 Inv-loop3 μ-loop3 Inv-loop4 μ-loop4
+free-chain-requires c κs = search needs
+
+mul-free : tie.Need-mul-free Inv-loop μ-loop Inv-loop2 μ-loop2 Inv-loop3 μ-loop3 Inv-loop4 μ-loop4
+mul-free c = let low = joining (c .before .before .before .before .before .before .before .before) .from-low in omega arith
+
+element-set-from-free : tie.Need-element-set-from-free Inv-loop μ-loop Inv-loop2 μ-loop2 Inv-loop3 μ-loop3 Inv-loop4 μ-loop4
+element-set-from-free c = joining (c .before .before .before .before .before .before .before .before) .from-low
+
+unite-requires : tie.Need-unite-requires Inv-loop μ-loop Inv-loop2 μ-loop2 Inv-loop3 μ-loop3 Inv-loop4 μ-loop4
+unite-requires c κs = joined-count _ _ _ (joining (c .before .before .before .before .before .before .before .before)) past
+
+mul-whole : tie.Need-mul-whole Inv-loop μ-loop Inv-loop2 μ-loop2 Inv-loop3 μ-loop3 Inv-loop4 μ-loop4
+mul-whole c = let low = joining (c .before .before .before .before .before .before .before .before .before) .to-low in omega arith
+
+element-set-from-whole : tie.Need-element-set-from-whole Inv-loop μ-loop Inv-loop2 μ-loop2 Inv-loop3 μ-loop3 Inv-loop4 μ-loop4
+element-set-from-whole c = joining (c .before .before .before .before .before .before .before .before .before) .to-low
+
+loop3-less : tie.Need-loop3-less Inv-loop μ-loop Inv-loop2 μ-loop2 Inv-loop3 μ-loop3 Inv-loop4 μ-loop4
 loop3-less c = omega arith
 
-loop3-again : tie.Need-loop3-again Inv-loop μ-loop Inv-loop2 μ-loop2 Inv-loop3 μ-loop3
+loop3-again : tie.Need-loop3-again Inv-loop μ-loop Inv-loop2 μ-loop2 Inv-loop3 μ-loop3 Inv-loop4 μ-loop4
 loop3-again c =
-    taking-take _ _ _ (foe (c .before .before .before .before .before .before .before .before .before)) _ _ _ _ (taking (c .before .before .before .before .before .before .before .before .before)) (in-near-2 (c .before .before .before .before .before .before .before .before .before)) _ (here-2 (c .before .before .before .before .before .before .before .before .before)) _ (its-2 (c .before .before .before .before .before .before .before))
-    past (c .before .before .before .before .before .before .if4 .taken) (sym (c .before .before .before .before .is-captured .ensures) ∙ c .before .before .before .if5 .taken) _ (c .before .before .remove-chain .ensures) _ (c .index5 .ensures)
+    let two = c .before .before .before .before .before .before .before .before .before in
+    let turn = two .before .before .before .before in
+    gathering-join _ (largest (near turn)) _ _ _ (putting (near turn)) _ (is-put (put-turn turn)) _ (listed (near turn)) _ _ _ (gathering turn)
+    (in-near turn) _ (here turn) _ (its turn) past (two .before .before .before .if5 .taken) _ (two .before .joins .ensures) (two .if6 .taken) _
+    (joined-all _ _ _ (joining two) past _ (c .before .before .before .before .own .ensures) _ (c .before .before .relink .ensures)
+    _ (c .before .free-chain .ensures) _ (c .unite .ensures))
 
-loop3-less-2 : tie.Need-loop3-less-2 Inv-loop μ-loop Inv-loop2 μ-loop2 Inv-loop3 μ-loop3
+loop3-less-2 : tie.Need-loop3-less-2 Inv-loop μ-loop Inv-loop2 μ-loop2 Inv-loop3 μ-loop3 Inv-loop4 μ-loop4
 loop3-less-2 c = omega arith
 
-loop3-again-2 : tie.Need-loop3-again-2 Inv-loop μ-loop Inv-loop2 μ-loop2 Inv-loop3 μ-loop3
+loop3-again-2 : tie.Need-loop3-again-2 Inv-loop μ-loop Inv-loop2 μ-loop2 Inv-loop3 μ-loop3 Inv-loop4 μ-loop4
 loop3-again-2 c =
-    taking-other _ _ _ (foe (c .before .before .before .before .before .before)) _ _ _ _ (taking (c .before .before .before .before .before .before)) (in-near-2 (c .before .before .before .before .before .before)) _ (here-2 (c .before .before .before .before .before .before)) _ (its-2 (c .before .before .before .before))
-    past (c .before .before .before .if4 .taken) (sym (c .before .is-captured .ensures) ∙ c .if5 .left)
+    let turn = c .before .before .before .before in
+    gathering-other _ (largest (near turn)) _ _ _ (putting (near turn)) _ (is-put (put-turn turn)) _ (listed (near turn)) _ _ _ (gathering turn)
+    (in-near turn) _ (here turn) _ (its turn) past (c .before .before .before .if5 .taken) _ (c .before .joins .ensures) (c .if6 .left)
 
-loop3-less-3 : tie.Need-loop3-less-3 Inv-loop μ-loop Inv-loop2 μ-loop2 Inv-loop3 μ-loop3
+loop3-less-3 : tie.Need-loop3-less-3 Inv-loop μ-loop Inv-loop2 μ-loop2 Inv-loop3 μ-loop3 Inv-loop4 μ-loop4
 loop3-less-3 c = omega arith
 
-loop3-again-3 : tie.Need-loop3-again-3 Inv-loop μ-loop Inv-loop2 μ-loop2 Inv-loop3 μ-loop3
+loop3-again-3 : tie.Need-loop3-again-3 Inv-loop μ-loop Inv-loop2 μ-loop2 Inv-loop3 μ-loop3 Inv-loop4 μ-loop4
 loop3-again-3 c =
-    taking-unowned _ _ _ (foe (c .before .before .before)) _ _ _ _ (taking (c .before .before .before)) (in-near-2 (c .before .before .before)) _ (here-2 (c .before .before .before)) _ (its-2 (c .before)) (c .if4 .left)
+    let turn = c .before in
+    gathering-unowned _ (largest (near turn)) _ _ _ (putting (near turn)) _ (is-put (put-turn turn)) _ (listed (near turn)) _ _ _ (gathering turn)
+    (in-near turn) _ (here turn) _ (its turn) (c .if5 .left)
 
-ko-point-requires : tie.Need-ko-point-requires Inv-loop μ-loop Inv-loop2 μ-loop2 Inv-loop3 μ-loop3
+other-requires : tie.Need-other-requires Inv-loop μ-loop Inv-loop2 μ-loop2 Inv-loop3 μ-loop3 Inv-loop4 μ-loop4
+other-requires c κs = search needs
+
+loop4-holds : tie.Need-loop4-holds Inv-loop μ-loop Inv-loop2 μ-loop2 Inv-loop3 μ-loop3 Inv-loop4 μ-loop4
+loop4-holds c = taking-none _ _ _ (enemy c) (c .before .before .before .loop3 .inv .so-far .table)
+
+owner-beside-requires-3 : tie.Need-owner-beside-requires-3 Inv-loop μ-loop Inv-loop2 μ-loop2 Inv-loop3 μ-loop3 Inv-loop4 μ-loop4
+owner-beside-requires-3 c κs =
+    let loop = c .before .before .before .before in (loop .loop4 .inv .table .shape .owners, omega (arith, few (near-take loop), c .before .before .if7 .taken))
+
+add-i-3 : tie.Need-add-i-3 Inv-loop μ-loop Inv-loop2 μ-loop2 Inv-loop3 μ-loop3 Inv-loop4 μ-loop4
+add-i-3 c = omega (arith, few (near-2 c), in-turn-2 c)
+
+mul-chain-2 : tie.Need-mul-chain-2 Inv-loop μ-loop Inv-loop2 μ-loop2 Inv-loop3 μ-loop3 Inv-loop4 μ-loop4
+mul-chain-2 c = omega arith
+
+element-copy-out-chain : tie.Need-element-copy-out-chain Inv-loop μ-loop Inv-loop2 μ-loop2 Inv-loop3 μ-loop3 Inv-loop4 μ-loop4
+element-copy-out-chain c = c .if8 .taken
+
+is-captured-requires : tie.Need-is-captured-requires Inv-loop μ-loop Inv-loop2 μ-loop2 Inv-loop3 μ-loop3 Inv-loop4 μ-loop4
+is-captured-requires c κs = search needs
+
+remove-chain-requires : tie.Need-remove-chain-requires Inv-loop μ-loop Inv-loop2 μ-loop2 Inv-loop3 μ-loop3 Inv-loop4 μ-loop4
+remove-chain-requires c κs =
+    let turn = c .before .before .before .before in
+    taking-removing _ _ _ (enemy (takes-of turn .before)) _ _ _ _ (taking turn) (in-near-2 turn) _ (here-2 turn) _ (its-2 turn)
+    past (c .before .before .before .if8 .taken) _ (c .before .is-captured .ensures) (c .if9 .taken)
+
+add-taken : tie.Need-add-taken Inv-loop μ-loop Inv-loop2 μ-loop2 Inv-loop3 μ-loop3 Inv-loop4 μ-loop4
+add-taken c =
+    let dead = c .before .before in
+    let turn = dead .before .before .before .before in
+    let some =
+    taking-few _ _ _ (enemy (takes-of turn .before)) _ _ _ _ (taking turn) (in-near-2 turn) _ (here-2 turn) _ (its-2 turn)
+    past (dead .before .before .before .if8 .taken) _ (dead .before .is-captured .ensures) (dead .if9 .taken) in
+    omega (arith, some, taking turn .few, few (near-2 turn), in-turn-2 turn)
+
+index-requires : tie.Need-index-requires Inv-loop μ-loop Inv-loop2 μ-loop2 Inv-loop3 μ-loop3 Inv-loop4 μ-loop4
+index-requires c κs = search needs
+
+loop4-less : tie.Need-loop4-less Inv-loop μ-loop Inv-loop2 μ-loop2 Inv-loop3 μ-loop3 Inv-loop4 μ-loop4
+loop4-less c = omega arith
+
+loop4-again : tie.Need-loop4-again Inv-loop μ-loop Inv-loop2 μ-loop2 Inv-loop3 μ-loop3 Inv-loop4 μ-loop4
+loop4-again c =
+    let dead = c .before .before .before in
+    let turn = dead .before .before .before .before in
+    taking-take _ _ _ (enemy (takes-of turn .before)) _ _ _ _ (taking turn) (in-near-2 turn) _ (here-2 turn) _ (its-2 turn)
+    past (dead .before .before .before .if8 .taken) _ (dead .before .is-captured .ensures) (dead .if9 .taken) _
+    (c .before .before .remove-chain .ensures) _ (c .index .ensures)
+
+loop4-less-2 : tie.Need-loop4-less-2 Inv-loop μ-loop Inv-loop2 μ-loop2 Inv-loop3 μ-loop3 Inv-loop4 μ-loop4
+loop4-less-2 c = omega arith
+
+loop4-again-2 : tie.Need-loop4-again-2 Inv-loop μ-loop Inv-loop2 μ-loop2 Inv-loop3 μ-loop3 Inv-loop4 μ-loop4
+loop4-again-2 c =
+    let turn = c .before .before .before .before in
+    taking-other _ _ _ (enemy (takes-of turn .before)) _ _ _ _ (taking turn) (in-near-2 turn) _ (here-2 turn) _ (its-2 turn)
+    past (c .before .before .before .if8 .taken) _ (c .before .is-captured .ensures) (c .if9 .left)
+
+loop4-less-3 : tie.Need-loop4-less-3 Inv-loop μ-loop Inv-loop2 μ-loop2 Inv-loop3 μ-loop3 Inv-loop4 μ-loop4
+loop4-less-3 c = omega arith
+
+loop4-again-3 : tie.Need-loop4-again-3 Inv-loop μ-loop Inv-loop2 μ-loop2 Inv-loop3 μ-loop3 Inv-loop4 μ-loop4
+loop4-again-3 c =
+    let turn = c .before in
+    taking-unowned _ _ _ (enemy (takes-of turn .before)) _ _ _ _ (taking turn) (in-near-2 turn) _ (here-2 turn) _ (its-2 turn) (c .if8 .left)
+
+ko-point-requires : tie.Need-ko-point-requires Inv-loop μ-loop Inv-loop2 μ-loop2 Inv-loop3 μ-loop3 Inv-loop4 μ-loop4
 ko-point-requires c κs = search needs
 
-mul-own : tie.Need-mul-own Inv-loop μ-loop Inv-loop2 μ-loop2 Inv-loop3 μ-loop3
-mul-own c = let low = ended-low (c .before) in omega arith
+mul-mine : tie.Need-mul-mine Inv-loop μ-loop Inv-loop2 μ-loop2 Inv-loop3 μ-loop3 Inv-loop4 μ-loop4
+mul-mine c = let low = ended-low (c .before) in omega arith
 
-element-copy-out-own : tie.Need-element-copy-out-own Inv-loop μ-loop Inv-loop2 μ-loop2 Inv-loop3 μ-loop3
-element-copy-out-own c = ended-low (c .before)
+element-copy-out-mine : tie.Need-element-copy-out-mine Inv-loop μ-loop Inv-loop2 μ-loop2 Inv-loop3 μ-loop3 Inv-loop4 μ-loop4
+element-copy-out-mine c = ended-low (c .before)
 
-is-lost-requires : tie.Need-is-lost-requires Inv-loop μ-loop Inv-loop2 μ-loop2 Inv-loop3 μ-loop3
+is-lost-requires : tie.Need-is-lost-requires Inv-loop μ-loop Inv-loop2 μ-loop2 Inv-loop3 μ-loop3 Inv-loop4 μ-loop4
 is-lost-requires c κs = search needs
 
-remove-chain-requires-2 : tie.Need-remove-chain-requires-2 Inv-loop μ-loop Inv-loop2 μ-loop2 Inv-loop3 μ-loop3
-remove-chain-requires-2 c κs = let end = c .before .before .before .before in record { table = end .before .loop3 .inv .table; low = ended-low end; is-used = ended-used end }
+remove-chain-requires-2 : tie.Need-remove-chain-requires-2 Inv-loop μ-loop Inv-loop2 μ-loop2 Inv-loop3 μ-loop3 Inv-loop4 μ-loop4
+remove-chain-requires-2 c κs =
+    let end = c .before .before .before .before in
+    record { table = takes-end end .loop4 .inv .table; low = ended-low end; is-used = ended-used end }
 
-returns : tie.Need-returns Inv-loop μ-loop Inv-loop2 μ-loop2 Inv-loop3 μ-loop3
+returns : tie.Need-returns Inv-loop μ-loop Inv-loop2 μ-loop2 Inv-loop3 μ-loop3 Inv-loop4 μ-loop4
 returns c =
     let end = c .before .before .before .before .before in
-    let own = entry _ (end .before .loop3 .inv .table) past _ (ended-low end) in
-    ended end _ true (lost-test end own ∙ sym (c .before .before .is-lost .ensures) ∙ c .before .if6 .taken) (c .remove-chain2 .ensures) refl
-    (ap (λ (x : Chain). x .count) own) (c .before .before .before .before .ko-point .ensures)
+    ended end _ true (lost-test end ∙ sym (c .before .before .is-lost .ensures) ∙ c .before .if10 .taken) (c .remove-chain2 .ensures) refl
+    (ap (λ (x : Chain). x .count) (ended-entry end)) (c .before .before .before .before .ko-point .ensures)
 
-returns-2 : tie.Need-returns-2 Inv-loop μ-loop Inv-loop2 μ-loop2 Inv-loop3 μ-loop3
+returns-2 : tie.Need-returns-2 Inv-loop μ-loop Inv-loop2 μ-loop2 Inv-loop3 μ-loop3 Inv-loop4 μ-loop4
 returns-2 c =
     let end = c .before .before .before .before in
-    let own = entry _ (end .before .loop3 .inv .table) past _ (ended-low end) in
-    ended end _ false (lost-test end own ∙ sym (c .before .is-lost .ensures) ∙ c .if6 .left) refl refl refl (c .before .before .before .ko-point .ensures)
+    ended end _ false (lost-test end ∙ sym (c .before .is-lost .ensures) ∙ c .if10 .left) refl refl refl (c .before .before .before .ko-point .ensures)
 
 pub lay-spec : {M : Type 1} → statement M
 lay-spec =
@@ -437,6 +640,8 @@ lay-spec =
     μ-loop2
     Inv-loop3
     μ-loop3
+    Inv-loop4
+    μ-loop4
     loop-holds
     mul-if1
     element-copy-out-if1
@@ -444,49 +649,73 @@ lay-spec =
     loop-less
     loop-again
     neighbours-requires
-    put-stone-requires
+    cast-new-chain
+    empty-liberties-requires
+    new-chain-requires
     loop2-holds
-    mul-index
-    array-read-index
-    index-requires
-    mul-index-2
-    element-copy-out-index
-    index-requires-2
+    owner-beside-requires
+    point-beside-requires
+    opened-requires
     add-i
+    mul-without
+    element-copy-out-without
+    without-requires
     mul-chain
-    element-copy-out-chain
-    joins-requires
-    join-requires
+    element-set-from-chain
     loop2-less
     loop2-again
     loop2-less-2
     loop2-again-2
-    loop2-less-3
-    loop2-again-3
-    other-requires
+    cast-board
+    mul-board
+    element-write-board
+    cast-board-2
+    mul-board-2
+    element-write-board-2
+    index-zobrist-requires
+    mul-stone
+    element-set-from-stone
     loop3-holds
-    mul-index-3
-    array-read-index-2
-    index-requires-3
-    mul-index-4
-    element-copy-out-index-2
-    index-requires-4
-    add-k
-    mul-chain-2
-    element-copy-out-chain-2
-    is-captured-requires
-    remove-chain-requires
-    add-taken
-    index-requires-5
+    owner-beside-requires-2
+    add-i-2
+    mul-a
+    element-copy-out-a
+    joins-requires
+    mul-b
+    element-copy-out-b
+    own-requires
+    relink-requires
+    free-chain-requires
+    mul-free
+    element-set-from-free
+    unite-requires
+    mul-whole
+    element-set-from-whole
     loop3-less
     loop3-again
     loop3-less-2
     loop3-again-2
     loop3-less-3
     loop3-again-3
+    other-requires
+    loop4-holds
+    owner-beside-requires-3
+    add-i-3
+    mul-chain-2
+    element-copy-out-chain
+    is-captured-requires
+    remove-chain-requires
+    add-taken
+    index-requires
+    loop4-less
+    loop4-again
+    loop4-less-2
+    loop4-again-2
+    loop4-less-3
+    loop4-again-3
     ko-point-requires
-    mul-own
-    element-copy-out-own
+    mul-mine
+    element-copy-out-mine
     is-lost-requires
     remove-chain-requires-2
     returns
