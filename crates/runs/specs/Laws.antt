@@ -4,8 +4,11 @@ pub mod Replay
 pub mod Step
 pub mod Table
 pub mod Stone
-pub mod Run
 pub mod Orders
 pub mod Exactly
+pub mod Moves
+pub mod Run
 pub mod Decide
 pub mod Alike
+pub mod Asked
+pub mod Queries

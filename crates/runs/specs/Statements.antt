@@ -1,18 +1,30 @@
 -- What holds of every run of calls, refused ones among them, for every program that keeps the promises: the page to read first.
 use mathlib.Core.Path.{_≡_}
 use mathlib.Core.Bool.{true}
-use mathlib.Core.List.{List}
-use Prim.Native.Nat.{ℕ, _+_}
+use mathlib.Core.List.{List, [], _∷_, _++_}
+use mathlib.Core.Logic.{_≢_, _↔_}
+use Prim.Native.Nat.{ℕ, _+_, _<_}
+use lib.ListN.{length, take}
 use Rattle.rules.specs.Colours.{black, white, at}
 use Rattle.rules.specs.Points.{index, neighbours}
 use Rattle.rules.specs.Reach.{Move}
 use Rattle.rules.specs.Move.{coloured}
 use Rattle.rules.specs.Flags.{SUICIDE, forbids}
+use Rattle.rules.specs.Answers.{Damaged, number}
+use Rattle.rules.specs.Game as rules
 use Rattle.rules.specs.Game.{stones}
+use Rattle.rules.specs.Calls as calls
+use Rattle.rules.specs.Calls.{Entry}
 use Rattle.board.specs.Board.{coloursOf}
-use Rattle.runs.specs.Runs.{Call, Reply, Event, Desk, Step, Fresh, Run, stone, turnIn, putIn}
+use Rattle.game.specs.declared.state.Game.{Game}
+use Rattle.game.specs.View.{viewOf}
+use Rattle.runs.specs.Runs.{Call, Reply, Event, Desk, Step, Fresh, Run, stone, replay, turnOver, turnIn, putIn}
 use Rattle.runs.specs.Holds.{Held, historyAfter}
+use Rattle.runs.specs.Orders.{First, Asks, rowsOf, acceptedOf}
+use Rattle.runs.specs.Alike.{Alike, AlikeDesks, SameReply}
 use Rattle.runs.specs.Laws.Run as laws
+use Rattle.runs.specs.Laws.Exactly as exactly
+use Rattle.runs.specs.Laws.Alike as alike
 
 -- from a new game on any lent bytes, over any calls
 module _ {first : Desk} (fresh : Fresh first) {events : List Event} {d : Desk} (run : Run first events d) where
@@ -22,7 +34,7 @@ module _ {first : Desk} (fresh : Fresh first) {events : List Event} {d : Desk} (
   every-run = laws.run-held fresh run
 
   pub every-history : (call : Call) (reply : Reply) (d′ : Desk) → Step call d reply d′ → d′ .bytes ≡ historyAfter call reply d
-  every-history call reply d′ s = laws.run-history fresh run call reply d′ s
+  every-history = laws.run-history fresh run
 
   -- ---- 2. Stones put down, counted off the accepted calls, are those on the board and those held
 
@@ -32,7 +44,7 @@ module _ {first : Desk} (fresh : Fresh first) {events : List Event} {d : Desk} (
   pub white-kept : putIn white events ≡ stones (coloursOf (d .game .board)) white + d .game .held .white
   white-kept = laws.run-white-kept fresh run
 
-  -- ---- 4. An accepted stone is a move of Tromp-Taylor 7, by the player whose turn it is by the calls so far
+  -- ---- 3. An accepted stone is a move of Tromp-Taylor 7, by the player whose turn it is by the calls so far
 
   module _ (r c : ℕ) (reply : Reply) (d′ : Desk) (s : Step (stone r c) d reply d′) (ok : reply .answer ≡ 0) where
     abbrev here : ℕ
@@ -48,3 +60,57 @@ module _ {first : Desk} (fresh : Fresh first) {events : List Event} {d : Desk} (
         forbids (d .game .flags) SUICIDE ≡ true → (q : ℕ) → at (coloured (coloursOf (d .game .board)) (turnIn events) here) q ≡ turnIn events →
         at (coloursOf (d′ .game .board)) q ≡ turnIn events
     stone-spares = laws.run-spares fresh run r c reply d′ s ok
+
+  -- and so is each accepted stone of a replay, from the board that the entries before it leave; the replay ends with its last accepted entry
+  module _ (es : List Entry) (reply : Reply) (d′ : Desk) (s : Step (replay es) d reply d′) where
+    abbrev upTo : List Entry → rules.Game
+    upTo part = calls.replay (viewOf (d .game)) (d .bytes) part .game
+
+    pub replay-moves :
+        (before : List Entry) (e : Entry) (later : List Entry) → es ≡ before ++ (e ∷ later) → e .kind ≡ 0 → length before < reply .entries →
+        Move (neighbours (d .game .board .height) (d .game .board .width)) (at (upTo before .colours)) (turnOver before (turnIn events))
+        (index (d .game .board .width) (e .row) (e .column)) (at (upTo (before ++ (e ∷ [])) .colours))
+    replay-moves = laws.run-replay-move fresh run es reply d′ s
+
+    pub replay-ends : viewOf (d′ .game) ≡ upTo (take (reply .entries) es)
+    replay-ends = laws.run-replay-end fresh run es reply d′ s
+
+    pub replay-counts : reply .entries ≡ acceptedOf (viewOf (d .game)) (d .bytes) es
+    replay-counts = laws.run-entries fresh run es reply d′ s
+
+  -- ---- 4. Each number is answered exactly if its row is the first of the call's order to hold, and 3 never
+
+  pub every-answer : (call : Call) (reply : Reply) (d′ : Desk) → Step call d reply d′ → (n : ℕ) → (reply .answer ≡ n) ↔ First n (rowsOf call d)
+  every-answer = laws.run-exactly fresh run
+
+  pub never-damaged : (call : Call) (reply : Reply) (d′ : Desk) → Step call d reply d′ → reply .answer ≢ number Damaged
+  never-damaged = laws.run-undamaged fresh run
+
+-- the same of any state at all: 3 exactly if it is not true, else by the order
+module _ (d : Desk) (reply : Reply) (d′ : Desk) (call : Call) (s : Step call d reply d′) where
+  pub damaged-exactly : (reply .answer ≡ number Damaged) ↔ (¬ Asks call d)
+  damaged-exactly = exactly.step-damaged d reply d′ call s
+
+  pub answer-exactly : Asks call d → (n : ℕ) → (reply .answer ≡ n) ↔ First n (rowsOf call d)
+  answer-exactly is n = exactly.step-exactly d reply d′ call is s n
+
+-- ---- 5. One answer: two results of one call are alike, alike is an equivalence, and no call tells alike states apart
+
+pub one-answer :
+    (call : Call) (d : Desk) (reply reply′ : Reply) (d′ e′ : Desk) → Step call d reply d′ → Step call d reply′ e′ → SameReply call reply reply′ × AlikeDesks d′ e′
+one-answer = alike.step-unique
+
+pub alike-self : (g : Game) → Alike g g
+alike-self = alike.alike-self
+
+pub alike-back : {g h : Game} → Alike g h → Alike h g
+alike-back = alike.alike-back
+
+pub alike-on : {g h k : Game} → Alike g h → Alike h k → Alike g k
+alike-on = alike.alike-on
+
+-- what is asked of alike games and boards is answered alike too: Laws.Asked (facts, check) and Laws.Queries (every query on a board)
+pub not-told-apart :
+    {d e : Desk} → AlikeDesks d e → (reply reply′ : Reply) (d′ e′ : Desk) (call : Call) → Step call d reply d′ → Step call e reply′ e′ →
+    SameReply call reply reply′ × AlikeDesks d′ e′
+not-told-apart = alike.step-alike

@@ -34,11 +34,11 @@ alike-on (seen t u e) (seen v w f) = seen t w (e ∙ f)
 
 -- ---- Both true with one view, or both damaged and equal
 
-alike-view : {g h : Game} → Alike g h → viewOf g ≡ viewOf h
+pub alike-view : {g h : Game} → Alike g h → viewOf g ≡ viewOf h
 alike-view (equal e) = ap viewOf e
 alike-view (seen t u e) = e
 
-alike-true : {g h : Game} → Alike g h → TrueState g → TrueState h
+pub alike-true : {g h : Game} → Alike g h → TrueState g → TrueState h
 alike-true (equal e) t = subst TrueState e t
 alike-true (seen t u e) v = u
 
@@ -46,7 +46,7 @@ alike-damaged : {g h : Game} → Alike g h → ¬ TrueState g → g ≡ h
 alike-damaged (equal e) n = e
 alike-damaged (seen t u e) n = absurd (n t)
 
-sound-alike : (d e : Desk) → AlikeDesks d e → Sound d → Sound e
+pub sound-alike : (d e : Desk) → AlikeDesks d e → Sound d → Sound e
 unfolding Sound RoomIn viewOf
 sound-alike d e a (t, room) = (
   alike-true (a .games) t,
@@ -54,7 +54,7 @@ sound-alike d e a (t, room) = (
       (subst (λ (xs : List ℕ). d .game .records ≤ length xs / recordBytes) (a .bytes) room),
 )
 
-desks-back : {d e : Desk} → AlikeDesks d e → AlikeDesks e d
+pub desks-back : {d e : Desk} → AlikeDesks d e → AlikeDesks e d
 desks-back a = record { games = alike-back (a .games); bytes = sym (a .bytes) }
 
 -- ---- A call with no history

@@ -24,6 +24,8 @@ use Rattle.runs.specs.Laws.Lent.{Lent, lent-same, lent-on, lent-room, st
 
 pub record Entered (g : Game) (bytes : List ℕ) (turns puts : Bool) (r : Result) : Type 0 where
   pub true′ : TrueGame (r .game)
+  pub tall : r .game .height ≡ g .height
+  pub wide : r .game .width ≡ g .width
   pub turn : r .game .turn ≡ cond turns (other (g .turn)) (g .turn)
   pub blacks : r .game .blackPut ≡ cond puts (g .blackPut + oneIf (g .turn) black) (g .blackPut)
   pub whites : r .game .whitePut ≡ cond puts (g .whitePut + oneIf (g .turn) white) (g .whitePut)
@@ -35,29 +37,29 @@ module _ (g : Game) (bytes : List ℕ) (is : TrueGame g) (room : g .records ≤ 
   stone-entered r c y =
       let lent = stone-lent g bytes r c room in
       let kept = stone-keeps g bytes r c is y in
-      rw y (record { true′ = kept; turn = refl; blacks = refl; whites = refl; lent = rw y at lent })
+      rw y (record { true′ = kept; tall = refl; wide = refl; turn = refl; blacks = refl; whites = refl; lent = rw y at lent })
 
   pass-entered : accepts (pass g bytes .answer) ≡ true → Entered g bytes true false (pass g bytes)
   unfolding pass result passGame
   pass-entered y =
       let kept = pass-true g is y in
-      rw y (record { true′ = kept; turn = refl; blacks = refl; whites = refl; lent = lent-same refl refl room })
+      rw y (record { true′ = kept; tall = refl; wide = refl; turn = refl; blacks = refl; whites = refl; lent = lent-same refl refl room })
 
   resign-entered : (player : ℕ) → Player player → accepts (resign g bytes player .answer) ≡ true → Entered g bytes false false (resign g bytes player)
   unfolding resign result resignGame
   resign-entered player names y =
       let kept = resign-true g is player names in
-      rw y (record { true′ = kept; turn = refl; blacks = refl; whites = refl; lent = lent-same refl refl room })
+      rw y (record { true′ = kept; tall = refl; wide = refl; turn = refl; blacks = refl; whites = refl; lent = lent-same refl refl room })
 
   resume-entered : Entered g bytes false false (resume g bytes)
   unfolding resume result resumeGame accepts number
-  resume-entered = record { true′ = resume-true g is; turn = refl; blacks = refl; whites = refl; lent = lent-same refl refl room }
+  resume-entered = record { true′ = resume-true g is; tall = refl; wide = refl; turn = refl; blacks = refl; whites = refl; lent = lent-same refl refl room }
 
   unknown : accepts (result BadKind g bytes g bytes .answer) ≡ true → ⊥
   unfolding result accepts number
   unknown y = true≢false (sym y)
 
-  entry-entered :
+  pub entry-entered :
       (e : Entry) → accepts (entryCall g bytes e .answer) ≡ true →
       Entered g bytes (eqb (e .kind) 0 || eqb (e .kind) 1) (eqb (e .kind) 0) (entryCall g bytes e)
   unfolding entryCall Player

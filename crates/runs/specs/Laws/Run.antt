@@ -1,10 +1,11 @@
 -- Laws of runs: what a step keeps, every run keeps.
 use mathlib.Core.Path.{_≡_, refl, sym, ap, ap₂, _∙_, subst}
 use mathlib.Core.Bool.{Bool, true, false, cond}
-use mathlib.Core.List.{List, [], _∷_}
-use Prim.Native.Nat.{ℕ, _+_, _*_, _/_}
+use mathlib.Core.List.{List, [], _∷_, _++_}
+use mathlib.Core.Logic.{_≢_, _↔_}
+use Prim.Native.Nat.{ℕ, _+_, _*_, _/_, _<_}
 use native.Mathlib.Omega.{arith}
-use lib.ListN.{length, drop}
+use lib.ListN.{length, take, drop}
 use Rattle.rules.specs.Sizes.{recordBytes}
 use Rattle.rules.specs.Colours.{black, white, at}
 use Rattle.rules.specs.Points.{index, neighbours}
@@ -12,17 +13,21 @@ use Rattle.rules.specs.Reach.{Move}
 use Rattle.rules.specs.Move.{coloured}
 use Rattle.rules.specs.Flags.{SUICIDE, forbids}
 use Rattle.rules.specs.Records.{capacity}
-use Rattle.rules.specs.Answers.{accepts}
+use Rattle.rules.specs.Answers.{Damaged, number, accepts}
 use Rattle.rules.specs.Game as rules
 use Rattle.rules.specs.Game.{freshGame, stones}
-use Rattle.rules.specs.Calls.{newAnswer, newGame}
+use Rattle.rules.specs.Calls as calls
+use Rattle.rules.specs.Calls.{newAnswer, newGame, Entry}
 use Rattle.board.specs.Board.{coloursOf}
 use Rattle.game.specs.declared.state.Game.{Game}
 use Rattle.game.specs.View.{viewOf, RoomIn}
-use Rattle.runs.specs.Runs.{Call, Reply, Event, Desk, Sound, Step, Fresh, Run, start, after, stone, turnAfter, putAfter, turnIn, putIn}
+use Rattle.runs.specs.Runs.{Call, Reply, Event, Desk, Sound, Step, Fresh, Run, start, after, stone, replay, turnOver, turnAfter, putAfter, turnIn, putIn}
 use Rattle.runs.specs.Laws.Step.{cond-same, new-field, step-sound, step-lent, step-history, step-turn, step-black, step-white}
 use Rattle.runs.specs.Holds.{Held, historyAfter}
 use Rattle.runs.specs.Laws.Table.{board-table}
+use Rattle.runs.specs.Orders.{First, rowsOf, acceptedOf}
+use Rattle.runs.specs.Laws.Moves.{replay-moves, replay-cut}
+use Rattle.runs.specs.Laws.Exactly.{step-exactly, step-damaged, step-entries, asks-sound}
 use Rattle.runs.specs.Laws.Stone.{step-move, step-spares}
 
 -- a field of the game at the start of a run
@@ -118,3 +123,40 @@ module _ {first : Desk} (fresh : Fresh first) where
           (λ (t : ℕ).
           forbids (d .game .flags) SUICIDE ≡ true → (q : ℕ) → at (coloured (coloursOf (d .game .board)) t here) q ≡ t → at (coloursOf (d′ .game .board)) q ≡ t)
           (run-turn run) (step-spares d reply d′ (run-sound run) r c s ok)
+
+    -- a stone in a replay, and that the last accepted entry is the last that does anything
+    module _ (es : List Entry) (reply : Reply) (d′ : Desk) (s : Step (replay es) d reply d′) where
+      abbrev upTo : List Entry → rules.Game
+      upTo part = calls.replay (viewOf (d .game)) (d .bytes) part .game
+
+      pub run-replay-move :
+          (before : List Entry) (e : Entry) (later : List Entry) → es ≡ before ++ (e ∷ later) → e .kind ≡ 0 → length before < reply .entries →
+          Move (neighbours (d .game .board .height) (d .game .board .width)) (at (upTo before .colours)) (turnOver before (turnIn events))
+          (index (d .game .board .width) (e .row) (e .column)) (at (upTo (before ++ (e ∷ [])) .colours))
+      unfolding calls.replay Sound viewOf RoomIn capacity
+      run-replay-move before e later split stone-kind early =
+          subst
+          (λ (t : ℕ).
+          Move (neighbours (d .game .board .height) (d .game .board .width)) (at (upTo before .colours)) (turnOver before t)
+          (index (d .game .board .width) (e .row) (e .column)) (at (upTo (before ++ (e ∷ [])) .colours)))
+          (run-turn run)
+          (replay-moves before 0 (viewOf (d .game)) (d .bytes) e later (run-sound run .0 .game) (run-sound run .1) stone-kind
+          (subst (λ (n : ℕ). length before < n)
+          (step-entries d reply d′ es (run-sound run) s ∙ ap (acceptedOf (viewOf (d .game)) (d .bytes)) split) early))
+
+      pub run-replay-end : viewOf (d′ .game) ≡ upTo (take (reply .entries) es)
+      unfolding calls.replay
+      run-replay-end =
+          s .shown (run-sound run) ∙ replay-cut (λ g bytes. g) es 0 (viewOf (d .game)) (d .bytes)
+          ∙ ap (λ (n : ℕ). upTo (take n es)) (sym (step-entries d reply d′ es (run-sound run) s))
+
+    -- ---- The answers
+
+    pub run-exactly : (call : Call) (reply : Reply) (d′ : Desk) → Step call d reply d′ → (n : ℕ) → (reply .answer ≡ n) ↔ First n (rowsOf call d)
+    run-exactly call reply d′ s n = step-exactly d reply d′ call (asks-sound call d (run-sound run)) s n
+
+    pub run-undamaged : (call : Call) (reply : Reply) (d′ : Desk) → Step call d reply d′ → reply .answer ≢ number Damaged
+    run-undamaged call reply d′ s e = step-damaged d reply d′ call s .0 e (asks-sound call d (run-sound run))
+
+    pub run-entries : (es : List Entry) (reply : Reply) (d′ : Desk) → Step (replay es) d reply d′ → reply .entries ≡ acceptedOf (viewOf (d .game)) (d .bytes) es
+    run-entries es reply d′ s = step-entries d reply d′ es (run-sound run) s
