@@ -16,7 +16,7 @@ use Rattle.points.specs.Place.{placeOf}
 use Rattle.board.specs.declared.goban.Board.{Board}
 use Rattle.board.specs.True.{TrueBoard}
 use Rattle.queries.specs.Answered as queries
-use Rattle.queries.specs.Laws.Answered.{true-or-not}
+use Rattle.board.specs.Laws.Judge.{true-or-not}
 use Rattle.listing.specs.declared.list.Listed.{Listed}
 use Rattle.listing.specs.Lists as listing
 use Rattle.game.specs.declared.state.Game.{Game}
@@ -29,7 +29,8 @@ use Rattle.checking.specs.Promise.{Checked}
 use Rattle.runs.specs.Runs.{Desk, Sound}
 use Rattle.runs.specs.Alike.{Alike, AlikeDesks, placementOf, AlikeBoards}
 use Rattle.runs.specs.Alike as alike
-use Rattle.runs.specs.Laws.Decide.{state-told, sound-told}
+use Rattle.checking.specs.Laws.State.{state-or-not}
+use Rattle.runs.specs.Laws.Decide.{sound-told}
 use Rattle.runs.specs.Laws.Alike.{alike-back, alike-view, alike-true, sound-alike, desks-back}
 
 -- ---- The facts of a game
@@ -73,7 +74,7 @@ pub facts-alike : {g h : Game} {r r′ : Facts} → Alike g h → Asked g r → 
 facts-alike {g} like p q =
     ⊎-elim (λ (t : TrueState g). told-same (alike-view like) (p .told t) (q .told (alike-true like t)))
     (λ (n : ¬ TrueState g). p .damaged n ∙ sym (q .damaged (λ u. n (alike-true (alike-back like) u))))
-    (state-told g)
+    (state-or-not g)
 
 -- ---- The check of a point
 
