@@ -1,9 +1,10 @@
 -- The words of the statements: what is told of a desk after a run, and of the history after a call.
 use mathlib.Core.Path.{_≡_}
-use mathlib.Core.Bool.{true, false, cond}
+use mathlib.Core.Bool.{Bool, true, false, cond, not}
 use mathlib.Core.List.{List}
 use mathlib.Core.Logic.{_≢_, _↔_}
 use Prim.Native.Nat.{ℕ, _*_, _≤_, _<_}
+use lib.Dec.{eqb}
 use lib.ListN.{length, drop}
 use Rattle.rules.specs.Sizes.{maxChains, slots, recordBytes}
 use Rattle.rules.specs.Lists.{count, below}
@@ -53,3 +54,13 @@ historyAfter pass reply d = d .bytes
 historyAfter (resign player) reply d = d .bytes
 historyAfter resume reply d = d .bytes
 historyAfter (replay es) reply d = rules.replay (viewOf (d .game)) (d .bytes) es .bytes
+
+-- the call was refused and gives back what it got: a new game alone is made either way, and a replay keeps what its accepted entries did
+abbrev pub turnedAway : Call → Reply → Bool
+turnedAway (newGame h w flags) reply = false
+turnedAway (handicap spots) reply = not (accepted reply)
+turnedAway (stone r c) reply = not (accepted reply)
+turnedAway pass reply = not (accepted reply)
+turnedAway (resign player) reply = not (accepted reply)
+turnedAway resume reply = not (accepted reply)
+turnedAway (replay es) reply = eqb (reply .entries) 0

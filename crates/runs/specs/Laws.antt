@@ -12,3 +12,4 @@ pub mod Decide
 pub mod Alike
 pub mod Asked
 pub mod Queries
+pub mod Refused

@@ -12,19 +12,24 @@ use Rattle.rules.specs.Move.{coloured}
 use Rattle.rules.specs.Flags.{SUICIDE, forbids}
 use Rattle.rules.specs.Answers.{Damaged, number}
 use Rattle.rules.specs.Game as rules
-use Rattle.rules.specs.Game.{stones}
+use Rattle.rules.specs.Game.{freshGame, stones}
 use Rattle.rules.specs.Calls as calls
-use Rattle.rules.specs.Calls.{Entry}
+use Rattle.rules.specs.Calls.{Entry, checkAnswer, boardAnswer, listAnswer}
 use Rattle.board.specs.Board.{coloursOf}
 use Rattle.game.specs.declared.state.Game.{Game}
+use Rattle.game.specs.declared.asks.Facts.{Facts}
 use Rattle.game.specs.View.{viewOf}
-use Rattle.runs.specs.Runs.{Call, Reply, Event, Desk, Step, Fresh, Run, stone, replay, turnOver, turnIn, putIn}
-use Rattle.runs.specs.Holds.{Held, historyAfter}
-use Rattle.runs.specs.Orders.{First, Asks, rowsOf, acceptedOf}
-use Rattle.runs.specs.Alike.{Alike, AlikeDesks, SameReply}
+use Rattle.game.specs.Asks.{Asked}
+use Rattle.checking.specs.Promise.{Checked}
+use Rattle.runs.specs.Runs.{Call, Reply, Event, Desk, Sound, Step, Fresh, Run, newGame, stone, replay, turnOver, turnIn, putIn}
+use Rattle.runs.specs.Holds.{Held, historyAfter, turnedAway}
+use Rattle.runs.specs.Orders.{First, Asks, rowsOf, acceptedOf, checkRows, boardRows, listRows}
+use Rattle.runs.specs.Alike.{Alike, AlikeDesks, SameReply, AlikeBoards}
 use Rattle.runs.specs.Laws.Run as laws
 use Rattle.runs.specs.Laws.Exactly as exactly
+use Rattle.runs.specs.Laws.Refused as refused
 use Rattle.runs.specs.Laws.Alike as alike
+use Rattle.runs.specs.Laws.Asked as asked
 
 -- from a new game on any lent bytes, over any calls
 module _ {first : Desk} (fresh : Fresh first) {events : List Event} {d : Desk} (run : Run first events d) where
@@ -91,8 +96,31 @@ module _ (d : Desk) (reply : Reply) (d′ : Desk) (call : Call) (s : Step call d
   pub damaged-exactly : (reply .answer ≡ number Damaged) ↔ (¬ Asks call d)
   damaged-exactly = exactly.step-damaged d reply d′ call s
 
+  -- a refused call gives back the very same state and bytes
+  pub refused-same : turnedAway call reply ≡ true → (d′ .game ≡ d .game) × (d′ .bytes ≡ d .bytes)
+  refused-same = refused.step-turned-away d reply d′ call s
+
   pub answer-exactly : Asks call d → (n : ℕ) → (reply .answer ≡ n) ↔ First n (rowsOf call d)
   answer-exactly is n = exactly.step-exactly d reply d′ call is s n
+
+-- a refused new game is an empty 1 × 1 one with flags 0
+pub new-refused :
+    (d : Desk) (reply : Reply) (d′ : Desk) (h w flags : ℕ) → Step (newGame h w flags) d reply d′ → reply .answer ≢ 0 → viewOf (d′ .game) ≡ freshGame 1 1 0
+new-refused = refused.step-unmade
+
+-- the check of a point by given flags, for what it judges and the history that it is lent
+pub check-exactly :
+    (is : Type 0) (g : rules.Game) (bytes : List ℕ) (flags r c answer : ℕ) → Checked is (checkAnswer g bytes flags r c) answer → is → (n : ℕ) →
+    (answer ≡ n) ↔ First n (checkRows g bytes flags r c)
+check-exactly = exactly.check-exactly
+
+-- a board from colours
+pub board-exactly : (h w : ℕ) (cols : List ℕ) (n : ℕ) → (number (boardAnswer h w cols) ≡ n) ↔ First n (boardRows h w cols)
+board-exactly = exactly.board-exactly
+
+-- the list of legal points
+pub list-exactly : (g : rules.Game) (flags : ℕ) (buffer : List ℕ) (n : ℕ) → (number (listAnswer g flags buffer) ≡ n) ↔ First n (listRows g flags buffer)
+list-exactly = exactly.list-exactly
 
 -- ---- 5. One answer: two results of one call are alike, alike is an equivalence, and no call tells alike states apart
 
@@ -109,8 +137,19 @@ alike-back = alike.alike-back
 pub alike-on : {g h k : Game} → Alike g h → Alike h k → Alike g k
 alike-on = alike.alike-on
 
--- what is asked of alike games and boards is answered alike too: Laws.Asked (facts, check) and Laws.Queries (every query on a board)
 pub not-told-apart :
     {d e : Desk} → AlikeDesks d e → (reply reply′ : Reply) (d′ e′ : Desk) (call : Call) → Step call d reply d′ → Step call e reply′ e′ →
     SameReply call reply reply′ × AlikeDesks d′ e′
 not-told-apart = alike.step-alike
+
+-- nor does a question: the facts of a game, the check of a point; every query on a board is in Laws.Queries
+pub facts-same : {g h : Game} {r r′ : Facts} → Alike g h → Asked g r → Asked h r′ → r ≡ r′
+facts-same = asked.facts-alike
+
+pub check-same :
+    {d e : Desk} (flags r c : ℕ) {a a′ : ℕ} → AlikeDesks d e → Checked (Sound d) (checkAnswer (viewOf (d .game)) (d .bytes) flags r c) a →
+    Checked (Sound e) (checkAnswer (viewOf (e .game)) (e .bytes) flags r c) a′ → a ≡ a′
+check-same = asked.check-alike
+
+pub boards-same : {g h : Game} → Alike g h → AlikeBoards (g .board) (h .board)
+boards-same = asked.boards-alike

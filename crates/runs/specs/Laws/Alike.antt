@@ -2,7 +2,7 @@
 use mathlib.Core.Path.{_≡_, refl, sym, ap, _∙_, subst}
 use mathlib.Core.Bool.{true, false, true≢false}
 use mathlib.Core.List.{List, []}
-use mathlib.Core.Logic.{_⊎_, inl, inr, ⊎-elim}
+use mathlib.Core.Logic.{_⊎_, ⊎-elim}
 use Prim.Native.Nat.{ℕ, _≤_, _/_}
 use lib.ListN.{length}
 use Rattle.rules.specs.Sizes.{recordBytes}

@@ -1,8 +1,8 @@
 -- Laws of answers: a call answers the number of the first row that holds, and 3 exactly if what it asks of the desk does not hold.
 use mathlib.Core.Path.{_≡_, refl, sym, ap, _∙_}
-use mathlib.Core.Bool.{Bool, true, false, cond, not}
+use mathlib.Core.Bool.{true, not}
 use mathlib.Core.List.{List, [], _∷_, _++_}
-use mathlib.Core.Logic.{_≢_, _↔_}
+use mathlib.Core.Logic.{_↔_}
 use Prim.Native.Nat.{ℕ}
 use native.Mathlib.Nat.{zero-add}
 use native.Mathlib.Omega.{arith}
@@ -14,13 +14,14 @@ use Rattle.rules.specs.Points.{index}
 use Rattle.rules.specs.Move.{coloured}
 use Rattle.rules.specs.Answers.{Answer, Damaged, NoLiberty, number}
 use Rattle.rules.specs.Game.{Game}
-use Rattle.rules.specs.Calls.{result, stone, pass, resign, resume, handicapped, Spot, choked, layBlack, Entry, entryCall, replay}
+use Rattle.rules.specs.Calls.{result, stone, pass, resign, resume, handicapped, Spot, choked, layBlack, Entry, entryCall, replay, checkAnswer, boardAnswer, listAnswer}
 use Rattle.rules.specs.Laws.Lists.{and-left, and-right, not-both}
 use Rattle.game.specs.View.{viewOf}
+use Rattle.checking.specs.Promise.{Checked}
 use Rattle.runs.specs.Runs as runs
 use Rattle.runs.specs.Runs.{Call, Reply, Desk, Sound, Alone, Step}
-use Rattle.runs.specs.Orders.{Row, row, firstOf, First, clear, this, later, spotRows, entryRows, replayRows, acceptedOf, rowsOf, Asks}
-use Rattle.runs.specs.Laws.Orders.{first-exactly, new-order, stone-order, pause-order, handicap-order, entry-all, all-append, replay-order, replay-accepted}
+use Rattle.runs.specs.Orders.{Row, row, firstOf, First, clear, this, later, spotRows, entryRows, replayRows, acceptedOf, rowsOf, Asks, checkRows, boardRows, listRows}
+use Rattle.runs.specs.Laws.Orders.{first-exactly, new-order, stone-order, pause-order, handicap-order, entry-all, all-append, replay-order, replay-accepted, check-order, board-order, list-order}
 
 -- ---- No test is answered with 3
 
@@ -110,3 +111,24 @@ asks-sound runs.pass d is = is .0
 asks-sound (runs.resign player) d is = is .0
 asks-sound runs.resume d is = is .0
 asks-sound (runs.replay es) d is = is
+
+-- ---- Calls that leave the state alone
+
+-- an answer that is the first of its order
+by-order : (a : Answer) (rows : List Row) → a ≡ firstOf rows → (answer : ℕ) → answer ≡ number a → (n : ℕ) → (answer ≡ n) ↔ First n rows
+by-order a rows e answer told n = (
+  λ same. first-exactly n rows .0 (sym (told ∙ ap number e) ∙ same),
+  λ o. told ∙ ap number e ∙ first-exactly n rows .1 o,
+)
+
+pub check-exactly :
+    (is : Type 0) (g : Game) (bytes : List ℕ) (flags r c answer : ℕ) → Checked is (checkAnswer g bytes flags r c) answer → is → (n : ℕ) →
+    (answer ≡ n) ↔ First n (checkRows g bytes flags r c)
+check-exactly is g bytes flags r c answer checked t =
+    by-order (checkAnswer g bytes flags r c) (checkRows g bytes flags r c) (check-order g bytes flags r c) answer (checked .answered t)
+
+pub board-exactly : (h w : ℕ) (cols : List ℕ) (n : ℕ) → (number (boardAnswer h w cols) ≡ n) ↔ First n (boardRows h w cols)
+board-exactly h w cols = by-order (boardAnswer h w cols) (boardRows h w cols) (board-order h w cols) (number (boardAnswer h w cols)) refl
+
+pub list-exactly : (g : Game) (flags : ℕ) (buffer : List ℕ) (n : ℕ) → (number (listAnswer g flags buffer) ≡ n) ↔ First n (listRows g flags buffer)
+list-exactly g flags buffer = by-order (listAnswer g flags buffer) (listRows g flags buffer) (list-order g flags buffer) (number (listAnswer g flags buffer)) refl

@@ -1,12 +1,12 @@
 -- Laws of the lent history: what a call leaves of the bytes, and that they have room for what the state counts then.
 use mathlib.Core.Path.{_≡_, refl, sym, ap, _∙_, subst}
-use mathlib.Core.Bool.{Bool, true, false, cond}
+use mathlib.Core.Bool.{true, false}
 use mathlib.Core.List.{List}
 use mathlib.Core.Logic.{⊎-elim}
 use Prim.Native.Nat.{ℕ, _*_, _≤_, _/_}
 use lib.ListN.{length, drop}
 use Rattle.rules.specs.Sizes.{recordBytes}
-use Rattle.rules.specs.Records.{capacity, full, recordsAfter, bytesAfter}
+use Rattle.rules.specs.Records.{capacity, full, recordsAfter}
 use Rattle.rules.specs.Answers.{HistoryFull, number, accepts}
 use Rattle.rules.specs.Game.{Game}
 use Rattle.rules.specs.Calls.{result, stone, stoneAnswer, stoneGame}

@@ -1,6 +1,6 @@
 -- Laws of the orders: each call of the rules answers the first row of its order that holds.
 use mathlib.Core.Path.{_≡_, refl, sym, ap, ap₂, _∙_}
-use mathlib.Core.Bool.{Bool, true, false, cond, not, _&&_}
+use mathlib.Core.Bool.{Bool, true, false, cond, not}
 use mathlib.Core.List.{List, [], _∷_, _++_}
 use mathlib.Core.Logic.{_≢_, _↔_, ⊎-elim}
 use Prim.Native.Nat.{ℕ, suc, _+_, _≤_}
@@ -10,16 +10,16 @@ use lib.Dec.{eqb, ltb, leb}
 use borrow.Author.Tests.{not-true, eqb-true, eqb-false, ne-eqb, le-ltb, lt-ltb}
 use Rattle.rules.specs.Sizes.{maxStones}
 use Rattle.rules.specs.Lists.{all}
-use Rattle.rules.specs.Colours.{black, empty, at}
+use Rattle.rules.specs.Colours.{black}
 use Rattle.rules.specs.Points.{index}
 use Rattle.rules.specs.Move.{coloured}
 use Rattle.rules.specs.Records.{full}
-use Rattle.rules.specs.Answers.{Answer, Accepted, Damaged, BadSize, BadFlags, GamePaused, OffBoard, PointNotEmpty, Suicide, Ko, SuperKo, FillEye, MoveLimit}
+use Rattle.rules.specs.Answers.{Answer, Accepted, BadSize, BadFlags, GamePaused, OffBoard, PointNotEmpty, Suicide, Ko, SuperKo, FillEye, MoveLimit}
 use Rattle.rules.specs.Answers.{HistoryFull, NotAtStart, NoLiberty, BadLength, BadColour, BadKind, number, accepts, refuse, _then_}
 use Rattle.rules.specs.Game.{Game}
-use Rattle.rules.specs.Calls.{sizeAnswer, flagsAnswer, newAnswer, outside, forbiddenAnswer, pointAnswer, checkAnswer, stoneAnswer, pauseAnswer, Spot, spotsAnswer, layAnswer}
+use Rattle.rules.specs.Calls.{sizeAnswer, flagsAnswer, newAnswer, forbiddenAnswer, pointAnswer, checkAnswer, stoneAnswer, pauseAnswer, Spot, spotsAnswer, layAnswer}
 use Rattle.rules.specs.Calls.{result, stone, pass, resign, resume, handicapAnswer, boardAnswer, listAnswer, choked, layBlack, Entry, entryCall, Replayed, replayFrom}
-use Rattle.rules.specs.Laws.Lists.{decided, not-both, and-left, and-right, and-both}
+use Rattle.rules.specs.Laws.Lists.{decided, and-left, and-right, and-both}
 use Rattle.rules.specs.Laws.Answers.{then-refused, then-accepted}
 use Rattle.runs.specs.Orders.{Row, row, firstOf, First, clear, this, later}
 use Rattle.runs.specs.Orders.{newRows, forbiddenRows, pointRows, checkRows, stoneRows, pauseRows, spotRows, handicapRows, boardRows, listRows, entryRows, replayRows, acceptedOf}

@@ -3,21 +3,19 @@ use mathlib.Core.Path.{_≡_, refl, sym, ap, ap₂, _∙_, subst}
 use mathlib.Core.Bool.{Bool, true, false, cond, _||_, true≢false}
 use mathlib.Core.List.{List, [], _∷_}
 use mathlib.Core.Logic.{inl, inr, ⊎-elim}
-use Prim.Native.Nat.{ℕ, suc, _+_, _*_, _/_, _≤_}
+use Prim.Native.Nat.{ℕ, suc, _+_, _≤_}
 use native.Mathlib.Nat.{add-zero, zero-add}
 use native.Mathlib.Omega.{arith}
 use lib.Dec.{eqb}
-use lib.ListN.{length, drop, take}
-use Rattle.rules.specs.Sizes.{recordBytes}
+use lib.ListN.{take}
 use Rattle.rules.specs.Colours.{black, white, other}
-use Rattle.rules.specs.Points.{index}
 use Rattle.rules.specs.Records.{capacity}
 use Rattle.rules.specs.Answers.{Answer, Accepted, BadKind, number, accepts}
 use Rattle.rules.specs.Game.{Game, TrueGame, Player}
-use Rattle.rules.specs.Calls.{Result, result, stoneAnswer, stoneGame, stone, pauseAnswer, passGame, pass, resignGame, resign, resumeGame, resume, oneIf, Entry, entryCall, Replayed, replayFrom, replay}
+use Rattle.rules.specs.Calls.{Result, result, stoneGame, stone, passGame, pass, resignGame, resign, resumeGame, resume, oneIf, Entry, entryCall, Replayed, replayFrom, replay}
 use Rattle.rules.specs.Laws.Lists.{decided}
 use Rattle.rules.specs.Laws.Keep.{pass-true, resign-true, resume-true, stone-keeps}
-use Rattle.runs.specs.Runs.{turnBy, putBy, turnOver, putOver}
+use Rattle.runs.specs.Runs.{turnOver, putOver}
 use Rattle.runs.specs.Laws.Lent.{Lent, lent-same, lent-on, lent-room, stone-lent}
 
 -- ---- One accepted entry: whether it changes the turn, whether it puts a stone down

@@ -1,6 +1,6 @@
 -- Laws of runs: what a step keeps, every run keeps.
 use mathlib.Core.Path.{_≡_, refl, sym, ap, ap₂, _∙_, subst}
-use mathlib.Core.Bool.{Bool, true, false, cond}
+use mathlib.Core.Bool.{true, cond}
 use mathlib.Core.List.{List, [], _∷_, _++_}
 use mathlib.Core.Logic.{_≢_, _↔_}
 use Prim.Native.Nat.{ℕ, _+_, _*_, _/_, _<_}
@@ -17,7 +17,7 @@ use Rattle.rules.specs.Answers.{Damaged, number, accepts}
 use Rattle.rules.specs.Game as rules
 use Rattle.rules.specs.Game.{freshGame, stones}
 use Rattle.rules.specs.Calls as calls
-use Rattle.rules.specs.Calls.{newAnswer, newGame, Entry}
+use Rattle.rules.specs.Calls.{newAnswer, Entry}
 use Rattle.board.specs.Board.{coloursOf}
 use Rattle.game.specs.declared.state.Game.{Game}
 use Rattle.game.specs.View.{viewOf, RoomIn}

@@ -3,11 +3,11 @@ use mathlib.Core.Path.{_≡_, refl, sym, ap, _∙_, subst}
 use mathlib.Core.Bool.{Bool, true, false, cond}
 use mathlib.Core.List.{List, []}
 use mathlib.Core.Logic.{⊎-elim}
-use Prim.Native.Nat.{ℕ, _+_, _≤_, _/_}
+use Prim.Native.Nat.{ℕ, _≤_, _/_}
 use native.Mathlib.Nat.{add-zero}
 use native.Mathlib.Omega.{arith}
 use lib.Dec.{eqb}
-use lib.ListN.{length, take}
+use lib.ListN.{take}
 use Rattle.rules.specs.Sizes.{recordBytes}
 use Rattle.rules.specs.Points.{index}
 use Rattle.rules.specs.Colours.{black, white}
@@ -21,7 +21,7 @@ use Rattle.rules.specs.Laws.Lists.{decided}
 use Rattle.board.specs.Board.{coloursOf}
 use Rattle.game.specs.declared.state.Game.{Game}
 use Rattle.game.specs.View.{turnOf, viewOf, TrueState, RoomIn}
-use Rattle.game.specs.Promise.{Made, Called, CalledAlone}
+use Rattle.game.specs.Promise.{Called, CalledAlone}
 use Rattle.runs.specs.Runs as runs
 use Rattle.runs.specs.Runs.{Call, Reply, Desk, Sound, Alone, Step, accepted, turnOver, putOver, turnAfter, putAfter}
 use Rattle.runs.specs.Holds.{historyAfter}

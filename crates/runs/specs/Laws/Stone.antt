@@ -1,6 +1,6 @@
 -- Laws of an accepted stone: the colours after it are those of a Tromp-Taylor move, and with SUICIDE set no own stone is cleared.
-use mathlib.Core.Path.{_≡_, refl, sym, ap, _∙_, subst}
-use mathlib.Core.Bool.{Bool, true, false, cond}
+use mathlib.Core.Path.{_≡_, sym, ap, _∙_, subst}
+use mathlib.Core.Bool.{Bool, true, cond}
 use mathlib.Core.List.{List}
 use Prim.Native.Nat.{ℕ}
 use lib.Dec.{eqb}
@@ -10,7 +10,7 @@ use Rattle.rules.specs.Points.{index, neighbours}
 use Rattle.rules.specs.Reach.{Move}
 use Rattle.rules.specs.Move.{coloured, played}
 use Rattle.rules.specs.Flags.{SUICIDE, forbids}
-use Rattle.rules.specs.Answers.{number, accepts}
+use Rattle.rules.specs.Answers.{accepts}
 use Rattle.rules.specs.Game as rules
 use Rattle.rules.specs.Calls.{resulting, stoneAnswer, stoneGame, result, pointAnswer}
 use Rattle.rules.specs.Calls as calls

@@ -1,18 +1,16 @@
 -- Laws of the chain table: a true board's table is what a reader asks of it.
-use mathlib.Core.Path.{_≡_, refl, sym, ap, _∙_, subst}
-use mathlib.Core.Bool.{Bool, true, false, not}
-use mathlib.Core.List.{List}
-use mathlib.Core.Logic.{_≢_}
+use mathlib.Core.Path.{_≡_, refl, sym}
+use mathlib.Core.Bool.{true, false, not}
 use Prim.Native.Nat.{ℕ, _<_}
 use native.Mathlib.Omega.{arith}
 use borrow.Author.Tests.{not-true}
-use Rattle.rules.specs.Sizes.{maxChains, slots}
+use Rattle.rules.specs.Sizes.{slots}
 use Rattle.rules.specs.Lists.{count, below}
 use Rattle.rules.specs.Laws.Lists.{below-mem, count-some, length-below}
 use Rattle.rules.specs.Laws.Counting.{count-not}
 use Rattle.chains.specs.Group.{used}
 use Rattle.board.specs.declared.goban.Board.{Board}
-use Rattle.board.specs.Board.{owner, chainIn, colourAt}
+use Rattle.board.specs.Board.{owner, chainIn}
 use Rattle.board.specs.True.{TrueBoard}
 use Rattle.board.specs.Laws.Board.{stone-owned}
 use Rattle.board.specs.Laws.Chains.{walk-owned, owned-walk}
