@@ -9,6 +9,7 @@ ghost use Rattle.board.specs.Board.{newBoard};
 // What owns a point that no chain owns.
 pub const NO_CHAIN: u16 = SLOTS as u16;
 
+#[repr(C)]
 pub struct Board {
     pub height: u8,
     pub width: u8,

@@ -11,6 +11,7 @@ ghost use Rattle.chains.specs.Group.{freeChain, newChain, firstFree};
 ghost use Rattle.chains.specs.Walk.{walked, walkLength};
 
 // One chain: its stones go round from origin to last and back by the board's links. Its slot is free if the count is 0.
+#[repr(C)]
 pub struct Chain {
     pub liberties: [u8; LIBERTY_BYTES],
     pub colour: u8,

@@ -21,6 +21,7 @@ ghost use Rattle.rules.specs.Calls as rules;
 ghost use Rattle.game.specs.View.{turnOf, viewOf, TrueState, freshState};
 ghost use Rattle.game.specs.Promise.{Made, CalledAlone};
 
+#[repr(C)]
 pub struct Answered {
     pub answer: u8,
     pub game: Game,

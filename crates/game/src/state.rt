@@ -5,11 +5,13 @@ use board::goban::Board;
 pub const NO_POINT: u16 = u16::MAX;
 
 // A number for each player.
+#[repr(C)]
 pub struct Tally {
     pub black: u32,
     pub white: u32,
 }
 
+#[repr(C)]
 pub struct Game {
     pub board: Board,
     pub flags: u8,

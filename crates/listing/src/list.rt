@@ -30,6 +30,7 @@ ghost use Rattle.listing.specs.Front.{Front};
 ghost use Rattle.listing.specs.Lists.{lengthAnswer, listAnswer, listed, Left, Lists};
 
 // The number of the answer, and how many places were filled: none where the call is refused.
+#[repr(C)]
 pub struct Listed {
     pub number: u8,
     pub count: usize,

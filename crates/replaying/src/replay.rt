@@ -11,12 +11,14 @@ ghost use Rattle.game.specs.View.{viewOf, TrueState, RoomIn};
 ghost use Rattle.replaying.specs.Replay.{entriesOf, Replays};
 
 // A row and a column count only where the kind is a stone.
+#[repr(C)]
 pub struct Move {
     pub kind: u8,
     pub row: u8,
     pub column: u8,
 }
 
+#[repr(C)]
 pub struct Replayed {
     // how many were accepted
     pub entries: usize,
