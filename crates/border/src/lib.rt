@@ -14,6 +14,10 @@ use listing::draw::pretty_string;
 use listing::list::Listed;
 use playing::handicap::handicap;
 use playing::stone::stone;
+use replaying::in_place::stone_in_place;
+use replaying::replay::Move;
+use replaying::replay::Replayed;
+use replaying::replay::replay;
 ghost use mathlib.Core.Path.{_≡_};
 ghost use mathlib.Core.Bool.{true};
 ghost use mathlib.Core.List.{[]};
@@ -27,6 +31,7 @@ ghost use Rattle.game.specs.View.{viewOf, turnOf, TrueState, RoomIn};
 ghost use Rattle.game.specs.Promise.{Made, Called, CalledAlone};
 ghost use Rattle.listing.specs.Lists as lists;
 ghost use Rattle.checking.specs.Promise.{Checked, Filled};
+ghost use Rattle.replaying.specs.Replay.{entriesOf, Replays};
 
 #[no_mangle]
 pub extern "C" fn samtrekhu_new_game(height: u8, width: u8, flags: u8) -> Answered
@@ -108,4 +113,23 @@ pub extern "C" fn samtrekhu_picture(board: Board, buffer: &mut [u8]) -> Listed
     ensures { λ r. ⌜ lists.Answered board (pictures.pictureAnswer (board .height) (board .width) (now (buffer .entry))) (pictures.picture (board .height) (board .width) (coloursOf board)) (now (buffer .entry)) r (now (buffer .exit)) ⌝ }
 {
     pretty_string(board, buffer)
+}
+
+#[no_mangle]
+pub extern "C" fn samtrekhu_stone_in_place(
+    game: &mut Game,
+    history: &mut [u8],
+    row: u8,
+    column: u8,
+) -> u8
+    ensures { λ r. ⌜ Called (TrueState (now (game .entry)) × RoomIn (now (game .entry)) (length (now (history .entry)))) (rules.stone (viewOf (now (game .entry))) (now (history .entry)) row column) (now (game .entry)) (now (history .entry)) r (now (game .exit)) (now (history .exit)) ⌝ }
+{
+    stone_in_place(game, history, row, column)
+}
+
+#[no_mangle]
+pub extern "C" fn samtrekhu_replay(game: Game, history: &mut [u8], moves: &[Move]) -> Replayed
+    ensures { λ r. ⌜ Replays (TrueState game × RoomIn game (length (now (history .entry)))) (rules.replay (viewOf game) (now (history .entry)) (entriesOf (now (moves .entry)))) game (now (history .entry)) r (now (history .exit)) ⌝ }
+{
+    replay(game, history, moves)
 }
