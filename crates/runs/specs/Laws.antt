@@ -13,3 +13,4 @@ pub mod Alike
 pub mod Asked
 pub mod Queries
 pub mod Refused
+pub mod Questions

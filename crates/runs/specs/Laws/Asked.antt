@@ -19,6 +19,7 @@ use Rattle.queries.specs.Answered as queries
 use Rattle.board.specs.Laws.Judge.{true-or-not}
 use Rattle.listing.specs.declared.list.Listed.{Listed}
 use Rattle.listing.specs.Lists as listing
+use Rattle.listing.specs.Laws.Unique.{left-unique}
 use Rattle.game.specs.declared.state.Game.{Game}
 use Rattle.game.specs.declared.asks.Facts.{Facts}
 use Rattle.game.specs.declared.asks.Outcome.{Outcome}
@@ -70,11 +71,20 @@ told-same {g} {h} {r} {r′} e p q =
       records = (p .records ∙ ap (λ (v : rules.Game). v .records) e ∙ sym (q .records)) i;
     }
 
+-- both true or neither
+pub states-alike : {g h : Game} → Alike g h → (TrueState g × TrueState h) ⊎ ((¬ TrueState g) × (¬ TrueState h))
+states-alike {g} {h} like =
+    ⊎-elim (λ (t : TrueState g). inl (t, alike-true like t)) (λ (n : ¬ TrueState g). inr (n, λ u. n (alike-true (alike-back like) u))) (state-or-not g)
+
+pub desks-alike : (d e : Desk) → AlikeDesks d e → (Sound d × Sound e) ⊎ ((¬ Sound d) × (¬ Sound e))
+desks-alike d e like =
+    ⊎-elim (λ (t : Sound d). inl (t, sound-alike d e like t)) (λ (n : ¬ Sound d). inr (n, λ u. n (sound-alike e d (desks-back like) u))) (sound-told d)
+
 pub facts-alike : {g h : Game} {r r′ : Facts} → Alike g h → Asked g r → Asked h r′ → r ≡ r′
-facts-alike {g} like p q =
-    ⊎-elim (λ (t : TrueState g). told-same (alike-view like) (p .told t) (q .told (alike-true like t)))
-    (λ (n : ¬ TrueState g). p .damaged n ∙ sym (q .damaged (λ u. n (alike-true (alike-back like) u))))
-    (state-or-not g)
+facts-alike like p q =
+    ⊎-elim (λ both. told-same (alike-view like) (p .told (both .0)) (q .told (both .1)))
+    (λ neither. p .damaged (neither .0) ∙ sym (q .damaged (neither .1)))
+    (states-alike like)
 
 -- ---- The check of a point
 
@@ -83,10 +93,20 @@ pub check-alike :
     Checked (Sound e) (checkAnswer (viewOf (e .game)) (e .bytes) flags r c) a′ → a ≡ a′
 check-alike {d} {e} flags r c like p q =
     ⊎-elim
-    (λ (t : Sound d).
-    p .answered t ∙ (λ i. number (checkAnswer (alike-view (like .games) i) (like .bytes i) flags r c)) ∙ sym (q .answered (sound-alike d e like t)))
-    (λ (n : ¬ Sound d). p .damaged n ∙ sym (q .damaged (λ u. n (sound-alike e d (desks-back like) u))))
-    (sound-told d)
+    (λ both.
+    p .answered (both .0) ∙ (λ i. number (checkAnswer (alike-view (like .games) i) (like .bytes i) flags r c)) ∙ sym (q .answered (both .1)))
+    (λ neither. p .damaged (neither .0) ∙ sym (q .damaged (neither .1)))
+    (desks-alike d e like)
+
+-- by the game's own flags
+pub own-check-alike :
+    {d e : Desk} (r c : ℕ) {a a′ : ℕ} → AlikeDesks d e → Checked (Sound d) (checkAnswer (viewOf (d .game)) (d .bytes) (d .game .flags) r c) a →
+    Checked (Sound e) (checkAnswer (viewOf (e .game)) (e .bytes) (e .game .flags) r c) a′ → a ≡ a′
+unfolding viewOf
+own-check-alike {d} {e} r c {a} {a′} like p q =
+    check-alike (d .game .flags) r c like p
+    (subst (λ (flags : ℕ). Checked (Sound e) (checkAnswer (viewOf (e .game)) (e .bytes) flags r c) a′)
+    (sym (ap (λ (v : rules.Game). v .flags) (alike-view (like .games)))) q)
 
 -- ---- Boards
 
@@ -107,6 +127,14 @@ alike-placement : {b c : Board} → AlikeBoards b c → placementOf b ≡ placem
 alike-placement (alike.equal e) = ap placementOf e
 alike-placement (alike.seen t u e) = e
 
+-- what two buffers are left with, by one answer and one list
+pub left-same :
+    {a a′ : Answer} {places places′ before after after′ : List ℕ} {r r′ : Listed} → a ≡ a′ → places ≡ places′ → listing.Left a places before r after →
+    listing.Left a′ places′ before r′ after′ → (r ≡ r′) × (after ≡ after′)
+left-same {a} {places′ = places′} {before} {after} {r = r} e f p q =
+    left-unique
+    (subst (λ (x : Answer). listing.Left x places′ before r after) e (subst (λ (xs : List ℕ). listing.Left a xs before r after) f p)) q
+
 -- a query whose result is a function of the placement
 module _ {b c : Board} (like : AlikeBoards b c) where
   pub query-alike :
@@ -122,18 +150,6 @@ module _ {b c : Board} (like : AlikeBoards b c) where
       (decided (off (placementOf b))))
       (λ neither. p .damaged (neither .0) ∙ sym (q .damaged (neither .1)))
       (board-cases like)
-
-  left-same :
-      {a a′ : Answer} {places places′ before after after′ : List ℕ} {r r′ : Listed} → a ≡ a′ → places ≡ places′ →
-      listing.Left a places before r after → listing.Left a′ places′ before r′ after′ → (r ≡ r′) × (after ≡ after′)
-  left-same {before = before} e f p q = (
-    λ i.
-        record {
-          number = (p .answered ∙ ap number e ∙ sym (q .answered)) i;
-          count = (p .counted ∙ (λ j. length (cond (accepts (e j)) (f j) [])) ∙ sym (q .counted)) i;
-        },
-    p .buffer ∙ (λ j. filled (e j) (f j) before) ∙ sym (q .buffer),
-  )
 
   -- a call that fills a lent buffer
   pub filling-alike :
