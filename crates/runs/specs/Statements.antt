@@ -14,13 +14,16 @@ use Rattle.rules.specs.Answers.{Damaged, number}
 use Rattle.rules.specs.Game as rules
 use Rattle.rules.specs.Game.{freshGame, stones}
 use Rattle.rules.specs.Calls as calls
-use Rattle.rules.specs.Calls.{Entry, checkAnswer, boardAnswer, listAnswer}
+use Rattle.rules.specs.Calls.{Entry, checkAnswer, listAnswer}
 use Rattle.board.specs.Board.{coloursOf}
 use Rattle.game.specs.declared.state.Game.{Game}
 use Rattle.game.specs.declared.asks.Facts.{Facts}
 use Rattle.game.specs.View.{viewOf}
 use Rattle.game.specs.Asks.{Asked}
-use Rattle.checking.specs.Promise.{Checked}
+use Rattle.listing.specs.declared.list.Listed.{Listed}
+use Rattle.placing.specs.declared.place.Placed.{Placed}
+use Rattle.placing.specs.Placing.{FromColours}
+use Rattle.checking.specs.Promise.{Checked, Filled}
 use Rattle.runs.specs.Runs.{Call, Reply, Event, Desk, Sound, Step, Fresh, Run, newGame, stone, replay, turnOver, turnIn, putIn}
 use Rattle.runs.specs.Holds.{Held, historyAfter, turnedAway}
 use Rattle.runs.specs.Orders.{First, Asks, rowsOf, acceptedOf, checkRows, boardRows, listRows}
@@ -108,19 +111,29 @@ pub new-refused :
     (d : Desk) (reply : Reply) (d′ : Desk) (h w flags : ℕ) → Step (newGame h w flags) d reply d′ → reply .answer ≢ 0 → viewOf (d′ .game) ≡ freshGame 1 1 0
 new-refused = refused.step-unmade
 
--- the check of a point by given flags, for what it judges and the history that it is lent
-pub check-exactly :
-    (is : Type 0) (g : rules.Game) (bytes : List ℕ) (flags r c answer : ℕ) → Checked is (checkAnswer g bytes flags r c) answer → is → (n : ℕ) →
-    (answer ≡ n) ↔ First n (checkRows g bytes flags r c)
-check-exactly = exactly.check-exactly
+-- the check of a point and the list of legal points, by given flags; `is` is what makes the state and the history true
+module _ (is : Type 0) (g : rules.Game) where
+  pub check-damaged : (bytes : List ℕ) (flags r c answer : ℕ) → Checked is (checkAnswer g bytes flags r c) answer → (answer ≡ number Damaged) ↔ (¬ is)
+  check-damaged = exactly.check-damaged is g
+
+  pub check-exactly :
+      (bytes : List ℕ) (flags r c answer : ℕ) → Checked is (checkAnswer g bytes flags r c) answer → is → (n : ℕ) →
+      (answer ≡ n) ↔ First n (checkRows g bytes flags r c)
+  check-exactly = exactly.check-exactly is g
+
+  pub list-damaged :
+      (flags : ℕ) (places before after : List ℕ) (r : Listed) → Filled is (listAnswer g flags before) places before r after →
+      (r .number ≡ number Damaged) ↔ (¬ is)
+  list-damaged = exactly.list-damaged is g
+
+  pub list-exactly :
+      (flags : ℕ) (places before after : List ℕ) (r : Listed) → Filled is (listAnswer g flags before) places before r after → is → (n : ℕ) →
+      (r .number ≡ n) ↔ First n (listRows g flags before)
+  list-exactly = exactly.list-exactly is g
 
 -- a board from colours
-pub board-exactly : (h w : ℕ) (cols : List ℕ) (n : ℕ) → (number (boardAnswer h w cols) ≡ n) ↔ First n (boardRows h w cols)
+pub board-exactly : (h w : ℕ) (cols : List ℕ) (r : Placed) → FromColours h w cols r → (n : ℕ) → (r .answer ≡ n) ↔ First n (boardRows h w cols)
 board-exactly = exactly.board-exactly
-
--- the list of legal points
-pub list-exactly : (g : rules.Game) (flags : ℕ) (buffer : List ℕ) (n : ℕ) → (number (listAnswer g flags buffer) ≡ n) ↔ First n (listRows g flags buffer)
-list-exactly = exactly.list-exactly
 
 -- ---- 5. One answer: two results of one call are alike, alike is an equivalence, and no call tells alike states apart
 
@@ -142,7 +155,8 @@ pub not-told-apart :
     SameReply call reply reply′ × AlikeDesks d′ e′
 not-told-apart = alike.step-alike
 
--- nor does a question: the facts of a game, the check of a point; every query on a board is in Laws.Queries
+-- nor does a question: here the facts of a game and the check of a point; the legal list and the tests are in Laws.Questions, every query on
+-- a board in Laws.Queries
 pub facts-same : {g h : Game} {r r′ : Facts} → Alike g h → Asked g r → Asked h r′ → r ≡ r′
 facts-same = asked.facts-alike
 

@@ -17,7 +17,10 @@ use Rattle.rules.specs.Game.{Game}
 use Rattle.rules.specs.Calls.{result, stone, pass, resign, resume, handicapped, Spot, choked, layBlack, Entry, entryCall, replay, checkAnswer, boardAnswer, listAnswer}
 use Rattle.rules.specs.Laws.Lists.{and-left, and-right, not-both}
 use Rattle.game.specs.View.{viewOf}
-use Rattle.checking.specs.Promise.{Checked}
+use Rattle.listing.specs.declared.list.Listed.{Listed}
+use Rattle.placing.specs.declared.place.Placed.{Placed}
+use Rattle.placing.specs.Placing.{FromColours}
+use Rattle.checking.specs.Promise.{Checked, Filled}
 use Rattle.runs.specs.Runs as runs
 use Rattle.runs.specs.Runs.{Call, Reply, Desk, Sound, Alone, Step}
 use Rattle.runs.specs.Orders.{Row, row, firstOf, First, clear, this, later, spotRows, entryRows, replayRows, acceptedOf, rowsOf, Asks, checkRows, boardRows, listRows}
@@ -127,8 +130,28 @@ pub check-exactly :
 check-exactly is g bytes flags r c answer checked t =
     by-order (checkAnswer g bytes flags r c) (checkRows g bytes flags r c) (check-order g bytes flags r c) answer (checked .answered t)
 
-pub board-exactly : (h w : ℕ) (cols : List ℕ) (n : ℕ) → (number (boardAnswer h w cols) ≡ n) ↔ First n (boardRows h w cols)
-board-exactly h w cols = by-order (boardAnswer h w cols) (boardRows h w cols) (board-order h w cols) (number (boardAnswer h w cols)) refl
+pub check-damaged :
+    (is : Type 0) (g : Game) (bytes : List ℕ) (flags r c answer : ℕ) → Checked is (checkAnswer g bytes flags r c) answer → (answer ≡ number Damaged) ↔ (¬ is)
+unfolding number
+check-damaged is g bytes flags r c answer checked = (
+  λ e t. undamaged-first refl (check-exactly is g bytes flags r c answer checked t (number Damaged) .0 e) refl,
+  checked .damaged,
+)
 
-pub list-exactly : (g : Game) (flags : ℕ) (buffer : List ℕ) (n : ℕ) → (number (listAnswer g flags buffer) ≡ n) ↔ First n (listRows g flags buffer)
-list-exactly g flags buffer = by-order (listAnswer g flags buffer) (listRows g flags buffer) (list-order g flags buffer) (number (listAnswer g flags buffer)) refl
+pub list-exactly :
+    (is : Type 0) (g : Game) (flags : ℕ) (places before after : List ℕ) (r : Listed) → Filled is (listAnswer g flags before) places before r after → is →
+    (n : ℕ) → (r .number ≡ n) ↔ First n (listRows g flags before)
+list-exactly is g flags places before after r filled t =
+    by-order (listAnswer g flags before) (listRows g flags before) (list-order g flags before) (r .number) (filled .told t .answered)
+
+pub list-damaged :
+    (is : Type 0) (g : Game) (flags : ℕ) (places before after : List ℕ) (r : Listed) → Filled is (listAnswer g flags before) places before r after →
+    (r .number ≡ number Damaged) ↔ (¬ is)
+unfolding number
+list-damaged is g flags places before after r filled = (
+  λ e t. undamaged-first refl (list-exactly is g flags places before after r filled t (number Damaged) .0 e) refl,
+  λ n. filled .damaged n .answered,
+)
+
+pub board-exactly : (h w : ℕ) (cols : List ℕ) (r : Placed) → FromColours h w cols r → (n : ℕ) → (r .answer ≡ n) ↔ First n (boardRows h w cols)
+board-exactly h w cols r made = by-order (boardAnswer h w cols) (boardRows h w cols) (board-order h w cols) (r .answer) (made .answered)
