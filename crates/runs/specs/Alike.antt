@@ -2,6 +2,7 @@
 -- unused slots hold and which byte says Black are free, and nothing else is.
 use mathlib.Core.Path.{_≡_}
 use mathlib.Core.Bool.{Bool, true, false}
+use mathlib.Core.List.{List, [], _∷_}
 use Rattle.rules.specs.Calls.{Placement}
 use Rattle.board.specs.declared.goban.Board.{Board}
 use Rattle.board.specs.Board.{coloursOf}
@@ -9,7 +10,7 @@ use Rattle.board.specs.True.{TrueBoard}
 use Rattle.game.specs.declared.state.Game.{Game}
 use Rattle.game.specs.View.{viewOf, TrueState}
 use Rattle.runs.specs.Runs as runs
-use Rattle.runs.specs.Runs.{Call, Reply, Desk}
+use Rattle.runs.specs.Runs.{Call, Reply, Event, Desk}
 
 pub data Alike (g h : Game) : Type 0 where
   equal : g ≡ h → Alike g h
@@ -33,6 +34,20 @@ isReplay (runs.replay es) = true
 pub record SameReply (call : Call) (reply reply′ : Reply) : Type 0 where
   pub answer : reply .answer ≡ reply′ .answer
   pub entries : isReplay call ≡ true → reply .entries ≡ reply′ .entries
+
+-- ---- Two runs
+
+-- the same calls, whatever was replied
+pub data SameCalls : List Event → List Event → Type 0 where
+  begin : SameCalls [] []
+  more : {e e′ : Event} {events events′ : List Event} → e .call ≡ e′ .call → SameCalls events events′ → SameCalls (e ∷ events) (e′ ∷ events′)
+
+-- and the same replies to them
+pub data SameReplies : List Event → List Event → Type 0 where
+  begin : SameReplies [] []
+  more :
+      {e e′ : Event} {events events′ : List Event} → SameReply (e .call) (e .reply) (e′ .reply) → SameReplies events events′ →
+      SameReplies (e ∷ events) (e′ ∷ events′)
 
 -- ---- Boards
 

@@ -1,7 +1,7 @@
 -- The column "given exactly if": for each call its tests in the order of 01, each with the answer that it gives where it is the first to
 -- hold. A state that is not true is refused before all of them, with 3.
 use mathlib.Core.Path.{_≡_}
-use mathlib.Core.Bool.{Bool, true, false, cond, not, _&&_}
+use mathlib.Core.Bool.{Bool, true, false, cond, not, _&&_, _||_}
 use mathlib.Core.List.{List, [], _∷_, _++_}
 use Prim.Native.Nat.{ℕ, suc}
 use lib.Dec.{eqb, ltb, leb}
@@ -18,6 +18,9 @@ use Rattle.rules.specs.Answers.{Answer, Accepted, BadSize, BadFlags, GamePaused
 use Rattle.rules.specs.Answers.{HistoryFull, NotAtStart, NoLiberty, BadLength, BadColour, BadKind, number, accepts}
 use Rattle.rules.specs.Game.{Game}
 use Rattle.rules.specs.Calls.{sideOk, paused, outside, offBoard, taken, resulting, Spot, choked, layBlack, Entry, entryCall}
+use Rattle.rules.specs.Picture.{pictureBytes}
+use Rattle.listing.specs.declared.shows.Question.{Question}
+use Rattle.listing.specs.declared.shows.Question.the-variants as questions
 use Rattle.game.specs.View.{viewOf, TrueState}
 use Rattle.runs.specs.Runs as runs
 use Rattle.runs.specs.Runs.{Call, Desk, Sound}
@@ -103,6 +106,19 @@ boardRows h w cols =
 
 abbrev pub listRows : Game → ℕ → List ℕ → List Row
 listRows g flags buffer = row BadFlags (ltb maxFlags flags) ∷ row BadLength (ltb (length buffer) (area (g .height) (g .width))) ∷ []
+
+-- ---- Lists of points: 5 if a point is given, 14, 15 if a colour is given. The colours as bytes and the picture: 14
+
+abbrev pub lengthRows : ℕ → ℕ → ℕ → List Row
+lengthRows h w n = row BadLength (ltb n (area h w)) ∷ []
+
+abbrev pub questionRows : ℕ → ℕ → ℕ → Question → List Row
+questionRows h w n questions.Stones = lengthRows h w n
+questionRows h w n (questions.Coloured c) = row BadLength (ltb n (area h w)) ∷ row BadColour (ltb white c) ∷ []
+questionRows h w n (questions.At r c local) = row OffBoard (leb h r || leb w c) ∷ lengthRows h w n
+
+abbrev pub pictureRows : ℕ → ℕ → ℕ → List Row
+pictureRows h w n = row BadLength (ltb n (pictureBytes h w)) ∷ []
 
 -- ---- A replay entry: 18, then its call's
 

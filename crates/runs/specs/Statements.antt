@@ -20,14 +20,18 @@ use Rattle.game.specs.declared.state.Game.{Game}
 use Rattle.game.specs.declared.asks.Facts.{Facts}
 use Rattle.game.specs.View.{viewOf}
 use Rattle.game.specs.Asks.{Asked}
+use Rattle.board.specs.declared.goban.Board.{Board}
+use Rattle.board.specs.True.{TrueBoard}
 use Rattle.listing.specs.declared.list.Listed.{Listed}
+use Rattle.listing.specs.declared.shows.Question.{Question}
+use Rattle.listing.specs.Lists.{Lists}
 use Rattle.placing.specs.declared.place.Placed.{Placed}
 use Rattle.placing.specs.Placing.{FromColours}
 use Rattle.checking.specs.Promise.{Checked, Filled}
 use Rattle.runs.specs.Runs.{Call, Reply, Event, Desk, Sound, Step, Fresh, Run, newGame, stone, replay, turnOver, turnIn, putIn}
 use Rattle.runs.specs.Holds.{Held, historyAfter, turnedAway}
-use Rattle.runs.specs.Orders.{First, Asks, rowsOf, acceptedOf, checkRows, boardRows, listRows}
-use Rattle.runs.specs.Alike.{Alike, AlikeDesks, SameReply, AlikeBoards}
+use Rattle.runs.specs.Orders.{First, Asks, rowsOf, acceptedOf, checkRows, boardRows, listRows, questionRows}
+use Rattle.runs.specs.Alike.{Alike, AlikeDesks, SameReply, SameCalls, SameReplies, AlikeBoards}
 use Rattle.runs.specs.Laws.Run as laws
 use Rattle.runs.specs.Laws.Exactly as exactly
 use Rattle.runs.specs.Laws.Refused as refused
@@ -135,6 +139,14 @@ module _ (is : Type 0) (g : rules.Game) where
 pub board-exactly : (h w : ℕ) (cols : List ℕ) (r : Placed) → FromColours h w cols r → (n : ℕ) → (r .answer ≡ n) ↔ First n (boardRows h w cols)
 board-exactly = exactly.board-exactly
 
+-- the lists of points on a board; the colours as bytes and the picture stand beside them in Laws.Exactly
+module _ (b : Board) (before after : List ℕ) (r : Listed) (question : Question) (p : Lists b question before r after) where
+  pub question-damaged : (r .number ≡ number Damaged) ↔ (¬ TrueBoard b)
+  question-damaged = exactly.question-damaged b before after r question p
+
+  pub question-exactly : TrueBoard b → (n : ℕ) → (r .number ≡ n) ↔ First n (questionRows (b .height) (b .width) (length before) question)
+  question-exactly = exactly.question-exactly b before after r question p
+
 -- ---- 5. One answer: two results of one call are alike, alike is an equivalence, and no call tells alike states apart
 
 pub one-answer :
@@ -154,6 +166,12 @@ pub not-told-apart :
     {d e : Desk} → AlikeDesks d e → (reply reply′ : Reply) (d′ e′ : Desk) (call : Call) → Step call d reply d′ → Step call e reply′ e′ →
     SameReply call reply reply′ × AlikeDesks d′ e′
 not-told-apart = alike.step-alike
+
+-- so two runs over the same calls give the same replies, the same bytes and states that nothing tells apart
+pub runs-same :
+    {first first′ : Desk} → AlikeDesks first first′ → {events events′ : List Event} {d e : Desk} → Run first events d → Run first′ events′ e →
+    SameCalls events events′ → SameReplies events events′ × AlikeDesks d e
+runs-same = alike.runs-alike
 
 -- nor does a question: here the facts of a game and the check of a point; the legal list and the tests are in Laws.Questions, every query on
 -- a board in Laws.Queries

@@ -13,38 +13,39 @@ use Rattle.game.specs.declared.state.Game.{Game}
 use Rattle.game.specs.View.{turnOf, viewOf, TrueState, RoomIn}
 use Rattle.game.specs.Promise.{CalledAlone}
 use Rattle.runs.specs.Runs as runs
-use Rattle.runs.specs.Runs.{Call, Reply, Desk, Sound, Alone, Step}
-use Rattle.runs.specs.Alike.{isReplay, Alike, equal, seen, AlikeDesks, SameReply}
+use Rattle.runs.specs.Runs.{Call, Reply, Event, Desk, Sound, Alone, Step, Run, start, after}
+use Rattle.runs.specs.Alike as alike
+use Rattle.runs.specs.Alike.{isReplay, Alike, AlikeDesks, SameReply, SameCalls, SameReplies}
 use Rattle.checking.specs.Laws.State.{state-or-not}
 use Rattle.runs.specs.Laws.Decide.{sound-told}
 
 -- ---- An equivalence
 
 pub alike-self : (g : Game) → Alike g g
-alike-self g = equal refl
+alike-self g = alike.equal refl
 
 pub alike-back : {g h : Game} → Alike g h → Alike h g
-alike-back (equal e) = equal (sym e)
-alike-back (seen t u e) = seen u t (sym e)
+alike-back (alike.equal e) = alike.equal (sym e)
+alike-back (alike.seen t u e) = alike.seen u t (sym e)
 
 pub alike-on : {g h k : Game} → Alike g h → Alike h k → Alike g k
-alike-on {k = k} (equal e) b = subst (λ x. Alike x k) (sym e) b
-alike-on {g} (seen t u e) (equal f) = subst (Alike g) f (seen t u e)
-alike-on (seen t u e) (seen v w f) = seen t w (e ∙ f)
+alike-on {k = k} (alike.equal e) b = subst (λ x. Alike x k) (sym e) b
+alike-on {g} (alike.seen t u e) (alike.equal f) = subst (Alike g) f (alike.seen t u e)
+alike-on (alike.seen t u e) (alike.seen v w f) = alike.seen t w (e ∙ f)
 
 -- ---- Both true with one view, or both damaged and equal
 
 pub alike-view : {g h : Game} → Alike g h → viewOf g ≡ viewOf h
-alike-view (equal e) = ap viewOf e
-alike-view (seen t u e) = e
+alike-view (alike.equal e) = ap viewOf e
+alike-view (alike.seen t u e) = e
 
 pub alike-true : {g h : Game} → Alike g h → TrueState g → TrueState h
-alike-true (equal e) t = subst TrueState e t
-alike-true (seen t u e) v = u
+alike-true (alike.equal e) t = subst TrueState e t
+alike-true (alike.seen t u e) v = u
 
 alike-damaged : {g h : Game} → Alike g h → ¬ TrueState g → g ≡ h
-alike-damaged (equal e) n = e
-alike-damaged (seen t u e) n = absurd (n t)
+alike-damaged (alike.equal e) n = e
+alike-damaged (alike.seen t u e) n = absurd (n t)
 
 pub sound-alike : (d e : Desk) → AlikeDesks d e → Sound d → Sound e
 unfolding Sound RoomIn viewOf
@@ -68,11 +69,11 @@ alone-alike call {g} {h} like p q =
     let u = alike-true like t in
     let e = alike-view like in (
       p .answered t ∙ ap (λ (v : rules.Game). number (call v .answer)) e ∙ sym (q .answered u),
-      seen (p .kept t) (q .kept u) (p .shown t ∙ ap (λ (v : rules.Game). call v .game) e ∙ sym (q .shown u)),
+      alike.seen (p .kept t) (q .kept u) (p .shown t ∙ ap (λ (v : rules.Game). call v .game) e ∙ sym (q .shown u)),
     ))
     (λ (n : ¬ TrueState g).
     let m : ¬ TrueState h = λ u. n (alike-true (alike-back like) u) in
-    (p .damaged n .0 ∙ sym (q .damaged m .0), equal (p .damaged n .1 ∙ alike-damaged like n ∙ sym (q .damaged m .1))))
+    (p .damaged n .0 ∙ sym (q .damaged m .0), alike.equal (p .damaged n .1 ∙ alike-damaged like n ∙ sym (q .damaged m .1))))
     (state-or-not g)
 
 -- ---- Each call
@@ -102,7 +103,7 @@ module _ {d e : Desk} (like : AlikeDesks d e) (reply reply′ : Reply) (d′ e�
           entries = λ z. absurd (true≢false (sym z));
         },
         record {
-          games = seen (p .kept t) (q .kept u) (p .shown t ∙ ap (λ (x : Result). x .game) same ∙ sym (q .shown u));
+          games = alike.seen (p .kept t) (q .kept u) (p .shown t ∙ ap (λ (x : Result). x .game) same ∙ sym (q .shown u));
           bytes = p .lent t ∙ ap (λ (x : Result). x .bytes) same ∙ sym (q .lent u);
         },
       ))
@@ -110,7 +111,7 @@ module _ {d e : Desk} (like : AlikeDesks d e) (reply reply′ : Reply) (d′ e�
       let m : ¬ Sound e = λ u. n (sound-alike e d (desks-back like) u) in (
         record { answer = p .damaged n .0 ∙ sym (q .damaged m .0); entries = λ z. absurd (true≢false (sym z)) },
         record {
-          games = alike-on (equal (p .damaged n .1)) (alike-on (like .games) (equal (sym (q .damaged m .1))));
+          games = alike-on (alike.equal (p .damaged n .1)) (alike-on (like .games) (alike.equal (sym (q .damaged m .1))));
           bytes = p .damaged n .2 ∙ like .bytes ∙ sym (q .damaged m .2);
         },
       ))
@@ -128,7 +129,7 @@ module _ {d e : Desk} (like : AlikeDesks d e) (reply reply′ : Reply) (d′ e�
           entries = λ z. p .counted t ∙ ap (λ (x : Replayed). x .entries) same ∙ sym (q .counted u);
         },
         record {
-          games = seen (p .kept t) (q .kept u) (p .shown t ∙ ap (λ (x : Replayed). x .game) same ∙ sym (q .shown u));
+          games = alike.seen (p .kept t) (q .kept u) (p .shown t ∙ ap (λ (x : Replayed). x .game) same ∙ sym (q .shown u));
           bytes = p .lent t ∙ ap (λ (x : Replayed). x .bytes) same ∙ sym (q .lent u);
         },
       ))
@@ -139,7 +140,7 @@ module _ {d e : Desk} (like : AlikeDesks d e) (reply reply′ : Reply) (d′ e�
           entries = λ z. p .damaged n .0 ∙ sym (q .damaged m .0);
         },
         record {
-          games = alike-on (equal (p .damaged n .2)) (alike-on (like .games) (equal (sym (q .damaged m .2))));
+          games = alike-on (alike.equal (p .damaged n .2)) (alike-on (like .games) (alike.equal (sym (q .damaged m .2))));
           bytes = p .damaged n .3 ∙ like .bytes ∙ sym (q .damaged m .3);
         },
       ))
@@ -149,7 +150,7 @@ module _ {d e : Desk} (like : AlikeDesks d e) (reply reply′ : Reply) (d′ e�
   step-alike (runs.newGame h w flags) p q = (
     record { answer = p .0 .answered ∙ sym (q .0 .answered); entries = λ z. absurd (true≢false (sym z)) },
     record {
-      games = seen (p .0 .kept) (q .0 .kept) (p .0 .shown ∙ sym (q .0 .shown));
+      games = alike.seen (p .0 .kept) (q .0 .kept) (p .0 .shown ∙ sym (q .0 .shown));
       bytes = p .1 ∙ like .bytes ∙ sym (q .1);
     },
   )
@@ -164,3 +165,14 @@ module _ {d e : Desk} (like : AlikeDesks d e) (reply reply′ : Reply) (d′ e�
 pub step-unique :
     (call : Call) (d : Desk) (reply reply′ : Reply) (d′ e′ : Desk) → Step call d reply d′ → Step call d reply′ e′ → SameReply call reply reply′ × AlikeDesks d′ e′
 step-unique call d reply reply′ d′ e′ p q = step-alike (record { games = alike-self (d .game); bytes = refl }) reply reply′ d′ e′ call p q
+
+-- two runs over the same calls, from alike desks: the same replies, and alike desks
+pub runs-alike :
+    {first first′ : Desk} → AlikeDesks first first′ → {events events′ : List Event} {d e : Desk} → Run first events d → Run first′ events′ e →
+    SameCalls events events′ → SameReplies events events′ × AlikeDesks d e
+runs-alike like start start alike.begin = (alike.begin, like)
+runs-alike like (after {d} {d′} x run s) (after {d = e} {d′ = e′} y run′ s′) (alike.more c calls) =
+    let (replies, so-far) = runs-alike like run run′ calls in
+    let both =
+    step-alike so-far (x .reply) (y .reply) d′ e′ (x .call) s (subst (λ (k : Call). Step k e (y .reply) e′) (sym c) s′) in
+    (alike.more (both .0) replies, both .1)

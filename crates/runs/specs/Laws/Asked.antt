@@ -1,14 +1,13 @@
 -- Laws of questions: what is asked of alike games and boards is answered alike, to the last number.
 use mathlib.Core.Path.{_≡_, refl, sym, ap, _∙_, subst}
-use mathlib.Core.Bool.{Bool, cond}
-use mathlib.Core.List.{List, []}
+use mathlib.Core.Bool.{Bool}
+use mathlib.Core.List.{List}
 use mathlib.Core.Logic.{_⊎_, inl, inr, ⊎-elim}
 use mathlib.Core.Option.{Option·none-ne-some, Option·some-injective}
 use Prim.Native.Nat.{ℕ}
-use lib.ListN.{length}
-use Rattle.rules.specs.Answers.{Answer, number, accepts}
+use Rattle.rules.specs.Answers.{Answer, Accepted, number}
 use Rattle.rules.specs.Game as rules
-use Rattle.rules.specs.Calls.{Placement, checkAnswer, filled}
+use Rattle.rules.specs.Calls.{Placement, checkAnswer}
 use Rattle.rules.specs.Laws.Lists.{decided}
 use Rattle.points.specs.declared.coord.Place.{Place}
 use Rattle.points.specs.declared.coord.Place.the-variants.{Off, At}
@@ -150,6 +149,13 @@ module _ {b c : Board} (like : AlikeBoards b c) where
       (decided (off (placementOf b))))
       (λ neither. p .damaged (neither .0) ∙ sym (q .damaged (neither .1)))
       (board-cases like)
+
+  -- the number alone
+  pub judged-alike :
+      (off : Placement → Bool) {a a′ : ℕ} → queries.Judged b (off (placementOf b)) a → queries.Judged c (off (placementOf c)) a′ → a ≡ a′
+  judged-alike off p q =
+      query-alike off (λ n. n) (λ p. number Accepted) (record { damaged = p .damaged; beyond = p .beyond; accepted = p .accepted })
+      (record { damaged = q .damaged; beyond = q .beyond; accepted = q .accepted })
 
   -- a call that fills a lent buffer
   pub filling-alike :

@@ -7,6 +7,7 @@ use Prim.Native.Nat.{ℕ}
 use native.Mathlib.Nat.{zero-add}
 use native.Mathlib.Omega.{arith}
 use lib.Dec.{eqb}
+use lib.ListN.{length}
 use borrow.Author.Tests.{eq-eqb}
 use Rattle.rules.specs.Lists.{all}
 use Rattle.rules.specs.Colours.{black}
@@ -17,14 +18,21 @@ use Rattle.rules.specs.Game.{Game}
 use Rattle.rules.specs.Calls.{result, stone, pass, resign, resume, handicapped, Spot, choked, layBlack, Entry, entryCall, replay, checkAnswer, boardAnswer, listAnswer}
 use Rattle.rules.specs.Laws.Lists.{and-left, and-right, not-both}
 use Rattle.game.specs.View.{viewOf}
+use Rattle.rules.specs.Picture.{picture, pictureAnswer}
+use Rattle.board.specs.declared.goban.Board.{Board}
+use Rattle.board.specs.Board.{coloursOf}
+use Rattle.board.specs.True.{TrueBoard}
 use Rattle.listing.specs.declared.list.Listed.{Listed}
+use Rattle.listing.specs.declared.shows.Question.{Question}
+use Rattle.listing.specs.declared.shows.Question.the-variants as questions
+use Rattle.listing.specs.Lists as listing
 use Rattle.placing.specs.declared.place.Placed.{Placed}
 use Rattle.placing.specs.Placing.{FromColours}
 use Rattle.checking.specs.Promise.{Checked, Filled}
 use Rattle.runs.specs.Runs as runs
 use Rattle.runs.specs.Runs.{Call, Reply, Desk, Sound, Alone, Step}
-use Rattle.runs.specs.Orders.{Row, row, firstOf, First, clear, this, later, spotRows, entryRows, replayRows, acceptedOf, rowsOf, Asks, checkRows, boardRows, listRows}
-use Rattle.runs.specs.Laws.Orders.{first-exactly, new-order, stone-order, pause-order, handicap-order, entry-all, all-append, replay-order, replay-accepted, check-order, board-order, list-order}
+use Rattle.runs.specs.Orders.{Row, row, firstOf, First, clear, this, later, spotRows, entryRows, replayRows, acceptedOf, rowsOf, Asks, checkRows, boardRows, listRows, lengthRows, questionRows, pictureRows}
+use Rattle.runs.specs.Laws.Orders.{first-exactly, new-order, stone-order, pause-order, handicap-order, entry-all, all-append, replay-order, replay-accepted, check-order, board-order, list-order, question-order, length-order, picture-order}
 
 -- ---- No test is answered with 3
 
@@ -155,3 +163,63 @@ list-damaged is g flags places before after r filled = (
 
 pub board-exactly : (h w : ℕ) (cols : List ℕ) (r : Placed) → FromColours h w cols r → (n : ℕ) → (r .answer ≡ n) ↔ First n (boardRows h w cols)
 board-exactly h w cols r made = by-order (boardAnswer h w cols) (boardRows h w cols) (board-order h w cols) (r .answer) (made .answered)
+
+-- ---- Queries that fill a lent buffer
+
+module _ (b : Board) (before after : List ℕ) (r : Listed) where
+  -- by the order of its answer
+  filling-exactly :
+      (a : Answer) (rows : List Row) (places : List ℕ) → a ≡ firstOf rows → listing.Answered b a places before r after → TrueBoard b → (n : ℕ) →
+      (r .number ≡ n) ↔ First n rows
+  filling-exactly a rows places e p t = by-order a rows e (r .number) (p .told t .answered)
+
+  filling-damaged :
+      (a : Answer) (rows : List Row) (places : List ℕ) → a ≡ firstOf rows → Undamaged rows → listing.Answered b a places before r after →
+      (r .number ≡ number Damaged) ↔ (¬ TrueBoard b)
+  filling-damaged a rows places e u p = (
+    λ same t. undamaged-first refl (filling-exactly a rows places e p t (number Damaged) .0 same) u,
+    λ n. p .damaged n .answered,
+  )
+
+  -- every list of points
+  pub question-exactly :
+      (question : Question) → listing.Lists b question before r after → TrueBoard b → (n : ℕ) →
+      (r .number ≡ n) ↔ First n (questionRows (b .height) (b .width) (length before) question)
+  unfolding listing.Lists
+  question-exactly question p = filling-exactly _ _ _ (question-order (b .height) (b .width) (length before) question) p
+
+  question-undamaged : (h w n : ℕ) (question : Question) → Undamaged (questionRows h w n question)
+  unfolding number
+  question-undamaged h w n questions.Stones = refl
+  question-undamaged h w n (questions.Coloured c) = refl
+  question-undamaged h w n (questions.At row column local) = refl
+
+  pub question-damaged : (question : Question) → listing.Lists b question before r after → (r .number ≡ number Damaged) ↔ (¬ TrueBoard b)
+  unfolding listing.Lists
+  question-damaged question p =
+      filling-damaged _ (questionRows (b .height) (b .width) (length before) question) _ (question-order (b .height) (b .width) (length before) question)
+      (question-undamaged (b .height) (b .width) (length before) question) p
+
+  -- the colours as bytes
+  abbrev Bytes : Type 0
+  Bytes = listing.Answered b (listing.lengthAnswer (b .height) (b .width) (length before)) (coloursOf b) before r after
+
+  pub colours-exactly : Bytes → TrueBoard b → (n : ℕ) → (r .number ≡ n) ↔ First n (lengthRows (b .height) (b .width) (length before))
+  colours-exactly p = filling-exactly _ (lengthRows (b .height) (b .width) (length before)) _ (length-order (b .height) (b .width) (length before)) p
+
+  pub colours-damaged : Bytes → (r .number ≡ number Damaged) ↔ (¬ TrueBoard b)
+  unfolding number
+  colours-damaged p =
+      filling-damaged _ (lengthRows (b .height) (b .width) (length before)) _ (length-order (b .height) (b .width) (length before)) refl p
+
+  -- the picture
+  abbrev Drawn : Type 0
+  Drawn = listing.Answered b (pictureAnswer (b .height) (b .width) before) (picture (b .height) (b .width) (coloursOf b)) before r after
+
+  pub picture-exactly : Drawn → TrueBoard b → (n : ℕ) → (r .number ≡ n) ↔ First n (pictureRows (b .height) (b .width) (length before))
+  picture-exactly p = filling-exactly _ (pictureRows (b .height) (b .width) (length before)) _ (picture-order (b .height) (b .width) before) p
+
+  pub picture-damaged : Drawn → (r .number ≡ number Damaged) ↔ (¬ TrueBoard b)
+  unfolding number
+  picture-damaged p =
+      filling-damaged _ (pictureRows (b .height) (b .width) (length before)) _ (picture-order (b .height) (b .width) before) refl p

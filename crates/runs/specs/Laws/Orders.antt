@@ -7,6 +7,7 @@ use Prim.Native.Nat.{ℕ, suc, _+_, _≤_}
 use native.Mathlib.Nat.{add-zero, suc-add, add-suc}
 use native.Mathlib.Omega.{arith}
 use lib.Dec.{eqb, ltb, leb}
+use lib.ListN.{length}
 use borrow.Author.Tests.{not-true, eqb-true, eqb-false, ne-eqb, le-ltb, lt-ltb}
 use Rattle.rules.specs.Sizes.{maxStones}
 use Rattle.rules.specs.Lists.{all}
@@ -20,9 +21,13 @@ use Rattle.rules.specs.Game.{Game}
 use Rattle.rules.specs.Calls.{sizeAnswer, flagsAnswer, newAnswer, forbiddenAnswer, pointAnswer, checkAnswer, stoneAnswer, pauseAnswer, Spot, spotsAnswer, layAnswer}
 use Rattle.rules.specs.Calls.{result, stone, pass, resign, resume, handicapAnswer, boardAnswer, listAnswer, choked, layBlack, Entry, entryCall, Replayed, replayFrom}
 use Rattle.rules.specs.Laws.Lists.{decided, and-left, and-right, and-both}
+use Rattle.rules.specs.Picture.{pictureAnswer}
+use Rattle.listing.specs.declared.shows.Question.{Question}
+use Rattle.listing.specs.declared.shows.Question.the-variants as questions
+use Rattle.listing.specs.Lists as listing
 use Rattle.rules.specs.Laws.Answers.{then-refused, then-accepted}
 use Rattle.runs.specs.Orders.{Row, row, firstOf, First, clear, this, later}
-use Rattle.runs.specs.Orders.{newRows, forbiddenRows, pointRows, checkRows, stoneRows, pauseRows, spotRows, handicapRows, boardRows, listRows, entryRows, replayRows, acceptedOf}
+use Rattle.runs.specs.Orders.{newRows, forbiddenRows, pointRows, checkRows, stoneRows, pauseRows, spotRows, handicapRows, boardRows, listRows, lengthRows, questionRows, pictureRows, entryRows, replayRows, acceptedOf}
 use Rattle.runs.specs.Laws.Replay.{replay-on, replay-stop}
 
 -- ---- Exactly if
@@ -162,6 +167,20 @@ module _ (g : Game) (bytes : List ℕ) (e : Entry) where
       high n o p q r =
           lt-ltb 4 (e .kind)
           (omega (arith, eqb-false (e .kind) 0 n, eqb-false (e .kind) 1 o, eqb-false (e .kind) 2 p, eqb-false (e .kind) 3 q, eqb-false (e .kind) 4 r))
+
+pub question-order : (h w n : ℕ) (question : Question) → listing.listAnswer h w n question ≡ firstOf (questionRows h w n question)
+unfolding listing.lengthAnswer accepts number
+question-order h w n questions.Stones = row-last BadLength _
+question-order h w n (questions.Coloured c) = row-first BadLength _ refl (row-last BadColour _)
+question-order h w n (questions.At r c local) = row-first OffBoard _ refl (row-last BadLength _)
+
+pub length-order : (h w n : ℕ) → listing.lengthAnswer h w n ≡ firstOf (lengthRows h w n)
+unfolding listing.lengthAnswer
+length-order h w n = row-last BadLength _
+
+pub picture-order : (h w : ℕ) (buffer : List ℕ) → pictureAnswer h w buffer ≡ firstOf (pictureRows h w (length buffer))
+unfolding pictureAnswer
+picture-order h w buffer = row-last BadLength _
 
 -- ---- A row of entries
 

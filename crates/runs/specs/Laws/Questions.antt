@@ -8,7 +8,7 @@ use Prim.Native.Nat.{ℕ}
 use lib.ListN.{length}
 use Rattle.rules.specs.Answers.{Answer, Accepted, number, accepts}
 use Rattle.rules.specs.Game as rules
-use Rattle.rules.specs.Calls.{Placement, offBoard, listAnswer, legals}
+use Rattle.rules.specs.Calls.{offBoard, listAnswer, legals}
 use Rattle.rules.specs.Laws.Lists.{decided}
 use Rattle.board.specs.declared.goban.Board.{Board}
 use Rattle.board.specs.Board.{coloursOf}
