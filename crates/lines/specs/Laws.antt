@@ -1,0 +1,10 @@
+-- What is proved about the definitions.
+pub mod Text
+pub mod Number
+pub mod Steps
+pub mod Calls
+pub mod Handicap
+pub mod Spots
+pub mod Line
+pub mod Capped
+pub mod Examples
