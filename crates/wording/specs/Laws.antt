@@ -1,0 +1,6 @@
+-- What is proved about the definitions.
+pub mod Put
+pub mod Figures
+pub mod Replies
+pub mod State
+pub mod Examples

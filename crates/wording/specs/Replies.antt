@@ -1,0 +1,90 @@
+-- What a reply says.
+use mathlib.Core.Bool.{Bool, cond, _&&_}
+use mathlib.Core.List.{List, [], _∷_, _++_}
+use mathlib.Core.Option.{Option, none, some}
+use Prim.Native.Nat.{ℕ, zero, suc}
+use lib.Dec.{eqb, ltb}
+use lib.ListN.{length}
+use Rattle.rules.specs.Colours.{black, white, at}
+use Rattle.rules.specs.Points.{area, row, column}
+use Rattle.rules.specs.Game.{Game}
+use Rattle.lines.specs.declared.command.Fault.{Fault}
+use Rattle.lines.specs.declared.command.Fault.the-variants as faults
+use Rattle.lines.specs.Text.{ascii, space}
+use Rattle.wording.specs.Figures.{decimal}
+
+-- ---- The state
+
+-- B or W
+unfoldable pub player : ℕ → ℕ
+player c = cond (eqb c white) 87 66
+
+-- row and column with a comma between; a dash where there is none
+abbrev pub placed : ℕ → Option ℕ → List ℕ
+placed w none = ascii "-"
+placed w (some p) = decimal (row w p) ++ ascii "," ++ decimal (column w p)
+
+abbrev pub named : Option ℕ → List ℕ
+named none = ascii "-"
+named (some c) = player c ∷ []
+
+-- X is Black, O is White, a dot is empty
+unfoldable pub sign : ℕ → ℕ
+sign c = cond (eqb c black) 88 (cond (eqb c white) 79 46)
+
+-- a point that begins a row other than the first has a slash before it
+unfoldable pub startsRow : ℕ → ℕ → Bool
+startsRow w p = ltb 0 p && eqb (column w p) 0
+
+unfoldable pub point : Bool → ℕ → List ℕ
+point starts c = cond starts (47 ∷ sign c ∷ []) (sign c ∷ [])
+
+-- the first points, row by row
+abbrev pub rowsUpto : ℕ → List ℕ → ℕ → List ℕ
+rowsUpto w cols zero = []
+rowsUpto w cols (suc p) = rowsUpto w cols p ++ point (startsRow w p) (at cols p)
+
+unfoldable pub spaced : List ℕ → List ℕ
+spaced text = space ∷ text
+
+-- turn, passes, White stones removed, Black stones removed, ko point on a board of this width, outcome, records
+unfoldable pub facts : ℕ → ℕ → ℕ → ℕ → ℕ → Option ℕ → Option ℕ → ℕ → List ℕ
+facts turn passes white black w ko outcome records =
+    (player turn ∷ [])
+    ++ spaced (decimal passes)
+    ++ spaced (decimal white)
+    ++ spaced (decimal black)
+    ++ spaced (placed w ko)
+    ++ spaced (named outcome)
+    ++ spaced (decimal records)
+
+unfoldable pub state : Game → List ℕ
+state g =
+    facts (g .turn) (g .passes) (g .whiteHeld) (g .blackHeld) (g .width) (g .koPoint) (g .outcome) (g .records)
+    ++ spaced (rowsUpto (g .width) (g .colours) (area (g .height) (g .width)))
+
+-- ---- Points
+
+abbrev pub each : List ℕ → List ℕ
+each [] = []
+each (p ∷ ps) = spaced (decimal p) ++ each ps
+
+-- the answer 0, how many there are, and the points
+unfoldable pub points : List ℕ → List ℕ
+points ps = decimal 0 ++ spaced (decimal (length ps)) ++ each ps
+
+-- ---- What is wrong with a line
+
+abbrev pub fault : Fault → List ℕ
+fault faults.Long = ascii "? a line has at most 8192 bytes"
+fault faults.Blank = ascii "? no call"
+fault faults.Unknown = ascii "? no such call"
+fault faults.New = ascii "? new takes height, width, flags and perhaps bytes"
+fault faults.Handicap = ascii "? handicap takes rows and columns in pairs"
+fault faults.Stone = ascii "? stone takes row and column"
+fault faults.Resign = ascii "? resign takes b or w"
+fault faults.Check = ascii "? check takes row, column and flags"
+fault faults.Legals = ascii "? legals takes flags"
+fault faults.Alone = ascii "? this call takes nothing more"
+fault faults.Bytes = ascii "? a game is lent at most 1048576 bytes"
+fault faults.Room = ascii "? more spots than a line can hold"
