@@ -66,3 +66,5 @@ pub const MAX_LINE: usize = 8192;
 pub const MAX_LENT: usize = 1048576;
 
 pub const USUAL_LENT: usize = 655360;
+// The most spots of a line: each takes four bytes at least.
+pub const MAX_SPOTS: usize = MAX_LINE / 4;

@@ -19,7 +19,7 @@ pub struct Word {
 }
 
 // How many bytes of the line are its text: a carriage return at its end is none.
-pub(crate) fn text_length(line: &[u8]) -> usize
+pub fn text_length(line: &[u8]) -> usize
     ensures { λ r. ⌜ r ≡ textLength (now (line .entry)) ⌝ }
 {
     let length = line.len();

@@ -43,7 +43,7 @@ side-capped : (n : ℕ) → sideOk (byteOf n) ≡ sideOk n
 unfolding sideOk
 side-capped n = ap₂ _&&_ (above-capped 1 n (omega arith)) (below-capped maxSide n (omega arith))
 
-flags-capped : (flags : ℕ) → flagsAnswer (byteOf flags) ≡ flagsAnswer flags
+pub flags-capped : (flags : ℕ) → flagsAnswer (byteOf flags) ≡ flagsAnswer flags
 unfolding flagsAnswer
 flags-capped flags = ap (refuse BadFlags) (above-capped (maxFlags + 1) flags (omega arith))
 
@@ -52,7 +52,7 @@ unfolding newAnswer sizeAnswer
 new-capped h w flags = simp (side-capped, flags-capped)
 
 -- flags that are accepted are a byte
-flags-same : (flags : ℕ) → accepts (flagsAnswer flags) ≡ true → byteOf flags ≡ flags
+pub flags-same : (flags : ℕ) → accepts (flagsAnswer flags) ≡ true → byteOf flags ≡ flags
 unfolding flagsAnswer accepts number
 flags-same flags e = byte-same (omega (arith, leb-false (maxFlags + 1) flags (refuse-not BadFlags (ltb maxFlags flags) refl e)))
 

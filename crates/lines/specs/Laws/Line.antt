@@ -4,10 +4,10 @@ use mathlib.Core.List.{List, [], _∷_}
 use mathlib.Core.Logic.{⊎-elim}
 use Prim.Native.Nat.{ℕ, _+_, _-_, _≤_, _<_}
 use native.Mathlib.Omega.{arith}
-use lib.Dec.{eqb}
+use lib.Dec.{eqb, ltb}
 use lib.ListN.{length, getD, take}
 use lib.Seq.{length-take-le}
-use borrow.Author.Tests.{lt-ltb, le-ltb, eq-eqb, ne-eqb}
+use borrow.Author.Tests.{lt-ltb, le-ltb, eq-eqb, ne-eqb, ltb-false}
 use Rattle.rules.specs.Laws.Lists.{decided}
 use Rattle.lines.specs.declared.command.Read.the-variants as reads
 use Rattle.lines.specs.declared.command.Fault.the-variants as faults
@@ -69,3 +69,11 @@ module _ (line : List ℕ) where
 pub meaning-cut : (line : List ℕ) (n : ℕ) → maxLine + 1 < n → n ≤ length line → meaning (take n line) ≡ meaning line
 meaning-cut line n l m =
     meaning-over (take n line) (rw (length-take-le n line m) l) ∙ sym (meaning-over line (omega arith))
+
+-- a line that is given back is none that is too long
+pub echo-short : (line : List ℕ) → meaning line ≡ commands.Echo → length (textOf line) ≤ maxLine
+unfolding meaning commandIn
+echo-short line e =
+    ⊎-elim (λ t. absurd (let f : commands.Wrong faults.Long ≡ commands.Echo = rw t at e in let z : _≡_ {A = ℕ} 0 1 = cc in omega arith))
+    (λ t. ltb-false maxLine (length (textOf line)) t)
+    (decided (ltb maxLine (length (textOf line))))

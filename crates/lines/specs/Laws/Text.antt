@@ -17,13 +17,13 @@ use Rattle.lines.specs.Steps.{Skipped, Ended, Parted, part, ended}
 
 -- ---- By the first byte
 
-words-blank : (fresh : Bool) (b : ℕ) (l : List ℕ) → blank b ≡ true → wordsFrom fresh (b ∷ l) ≡ wordsFrom true l
+pub words-blank : (fresh : Bool) (b : ℕ) (l : List ℕ) → blank b ≡ true → wordsFrom fresh (b ∷ l) ≡ wordsFrom true l
 words-blank fresh b l e = rw (e, wordsFrom)
 
-words-inside : (b : ℕ) (l : List ℕ) → blank b ≡ false → wordsFrom false (b ∷ l) ≡ wordsFrom false l
+pub words-inside : (b : ℕ) (l : List ℕ) → blank b ≡ false → wordsFrom false (b ∷ l) ≡ wordsFrom false l
 words-inside b l e = rw (e, wordsFrom)
 
-words-begin : (b : ℕ) (l : List ℕ) → blank b ≡ false → wordsFrom true (b ∷ l) ≡ word (b ∷ l) ∷ wordsFrom false l
+pub words-begin : (b : ℕ) (l : List ℕ) → blank b ≡ false → wordsFrom true (b ∷ l) ≡ word (b ∷ l) ∷ wordsFrom false l
 words-begin b l e = rw (e, wordsFrom)
 
 word-blank : (b : ℕ) (l : List ℕ) → blank b ≡ true → word (b ∷ l) ≡ []
