@@ -1,8 +1,9 @@
 -- Laws of the replies: one byte, one point more.
 use mathlib.Core.Path.{_≡_, refl, sym, ap, _∙_}
 use mathlib.Core.List.{List, [], _∷_, _++_, append-assoc, append-nil}
-use Prim.Native.Nat.{ℕ, _+_, _/_, _%_, _<_}
+use Prim.Native.Nat.{ℕ, _+_, _*_, _/_, _%_, _<_}
 use native.Mathlib.Numerals.{add-one}
+use native.Mathlib.Omega.{arith}
 use lib.ListN.{length, getD, take}
 use lib.Seq.{take-suc}
 use Rattle.rules.specs.Colours.{at}
@@ -15,6 +16,10 @@ taken l i h = rw add-one (take-suc l i 0 h)
 hex-append : (xs ys : List ℕ) → hex (xs ++ ys) ≡ hex xs ++ hex ys
 hex-append [] ys = refl
 hex-append (x ∷ xs) ys = ap (λ (l : List ℕ). hexDigit (x / 16) ∷ hexDigit (x % 16) ∷ l) (hex-append xs ys)
+
+pub length-hex : (bytes : List ℕ) → length (hex bytes) ≡ 2 * length bytes
+length-hex [] = refl
+length-hex (b ∷ bytes) = let ih = length-hex bytes in omega arith
 
 -- the two digits of one byte more
 pub hex-more : (bytes : List ℕ) (i : ℕ) → i < length bytes

@@ -1,0 +1,2 @@
+-- What keeping a line promises.
+pub mod Kept
