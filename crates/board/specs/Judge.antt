@@ -1,36 +1,26 @@
--- What the judge computes: tests on a board's lists that all say yes exactly on true boards. Each is over the sizes, the owner of
--- each point and one chain, so that code that is lent the arrays can promise it.
-use mathlib.Core.Bool.{Bool, not, _&&_, _||_}
+-- What the judge computes: tests on a board's lists that all say yes exactly on true boards. Those of one slot are over the sizes, the
+-- owner of each point and one chain, so that code that is lent the arrays can promise them.
+use mathlib.Core.Bool.{Bool, cond, not, _&&_, _||_}
 use mathlib.Core.List.{List, [], _∷_}
-use Prim.Native.Nat.{ℕ, _-_}
-use lib.Dec.{eqb, ltb}
+use Prim.Native.Nat.{ℕ, _+_, _-_}
+use lib.Dec.{eqb, ltb, leb}
 use lib.ListN.{getD}
 use Rattle.rules.specs.Sizes.{maxSide, maxArea, slots}
-use Rattle.rules.specs.Lists.{any, all, count, below, same, has}
-use Rattle.rules.specs.Points.{area, neighbours}
-use Rattle.rules.specs.Colours.{empty, black, white}
+use Rattle.rules.specs.Lists.{any, all, count, below, same, tabulate}
+use Rattle.rules.specs.Points.{area, column, neighbours}
+use Rattle.rules.specs.Colours.{black, white}
 use Rattle.rules.specs.Flood.{flooded, marked}
 use Rattle.rules.specs.Hash.{hash}
 use Rattle.chains.specs.declared.group.Chain.{Chain}
 use Rattle.chains.specs.Group.{used}
-use Rattle.sets.specs.Liberties.{setOf, number, has as libertyHas}
-use Rattle.chains.specs.Walk.{stepped, walked}
+use Rattle.sets.specs.Liberties.{setOf, number}
+use Rattle.chains.specs.Walk.{stepped}
 use Rattle.board.specs.declared.goban.Board.{Board}
-use Rattle.board.specs.Board.{owner, chainIn, colourAt, coloursOf}
+use Rattle.board.specs.Board.{owner, chainIn, colourAt}
 
--- ---- What the arrays say of a point and of a slot
-
+-- what an array of owners says of a point
 unfoldable pub ownerIn : List ℕ → ℕ → ℕ
 ownerIn owners p = getD owners p slots
-
--- what an array holds for a slot; no chain has 0
-unfoldable pub slotValue : List ℕ → ℕ → ℕ
-slotValue values s = getD values s 0
-
-unfoldable pub colourIn : List ℕ → List ℕ → ℕ → ℕ
-colourIn owners colours p = slotValue colours (ownerIn owners p)
-
--- ---- The tests
 
 -- the side of a board
 unfoldable pub sideGood : ℕ → Bool
@@ -39,69 +29,83 @@ sideGood n = ltb 0 n && not (ltb maxSide n)
 unfoldable pub player : ℕ → Bool
 player c = eqb c black || eqb c white
 
--- what the set has, and the empty ones among the points
-unfoldable pub withEmpty : (ℕ → ℕ) → List ℕ → List ℕ → ℕ → Bool
-withEmpty own set ps q = libertyHas set q || (eqb (own q) slots && has ps q)
+module _ (own : ℕ → ℕ) (next : List ℕ) (s : ℕ) (c : Chain) where
+  -- k links from the origin stands a stone of slot s, and for k above 0 one that comes after the origin
+  unfoldable pub onRing : ℕ → Bool
+  onRing k =
+      let p = stepped next (c .origin) k in
+      eqb (own p) s && (eqb k 0 || ltb (c .origin) p)
+
+  -- the links lead from the origin to last and back, in as many steps as the chain has stones
+  unfoldable pub ring : Bool
+  ring =
+      all onRing (below (c .count))
+      && (eqb (stepped next (c .origin) (c .count - 1)) (c .last) && eqb (stepped next (c .origin) (c .count)) (c .origin))
 
 module _ (h w : ℕ) (own : ℕ → ℕ) where
   -- a point of the board has no owner or a slot, and a point beyond the board no owner
   unfoldable pub placed : ℕ → Bool
-  placed p = eqb (own p) slots || (ltb p (area h w) && ltb (own p) slots)
+  placed p = cond (ltb p (area h w)) (leb (own p) slots) (eqb (own p) slots)
 
-  -- how many points the slot owns
-  unfoldable pub owned : ℕ → ℕ
-  owned s = count (λ p. eqb (own p) s) (below (area h w))
+  -- a walk by points of the slot s leads from o to p
+  unfoldable pub found : ℕ → ℕ → ℕ → Bool
+  found s o p = marked (flooded (neighbours h w) (λ q. eqb (own q) s) (area h w) (o ∷ [])) p
 
-  -- q is empty and lies beside one of the stones
-  unfoldable pub shore : List ℕ → ℕ → Bool
-  shore stones q = eqb (own q) slots && any (λ p. has (neighbours h w p) q) stones
-
-  -- beside p no stone q of its colour has another owner
-  unfoldable pub apart : (ℕ → ℕ) → ℕ → ℕ → Bool
-  apart col p q = eqb (col p) empty || (not (eqb (col p) (col q)) || eqb (own p) (own q))
-
-  unfoldable pub largest : (ℕ → ℕ) → ℕ → Bool
-  largest col p = all (apart col p) (neighbours h w p)
-
-  -- p is empty, or a walk by stones of its owner leads to it from the point that its owner names as origin
-  unfoldable pub joined : (ℕ → ℕ) → ℕ → Bool
-  joined origin p =
-      eqb (own p) slots
-      || marked (flooded (neighbours h w) (λ q. eqb (own q) (own p)) (area h w) (origin (own p) ∷ [])) p
+  -- q is empty and lies beside a point that passes the test
+  unfoldable pub shore : (ℕ → Bool) → ℕ → Bool
+  shore f q = eqb (own q) slots && any f (neighbours h w q)
 
   module _ (next : List ℕ) (s : ℕ) (c : Chain) where
-    -- k links from the origin stands a stone of slot s, and for k above 0 one that comes after the origin
-    unfoldable pub onRing : ℕ → Bool
-    onRing k =
-        let p = stepped next (c .origin) k in
-        ltb p (area h w) && (eqb (own p) s && (eqb k 0 || ltb (c .origin) p))
+    -- as many stones as the chain counts are found from its origin
+    unfoldable pub counted : Bool
+    counted = eqb (count (found s (c .origin)) (below (area h w))) (c .count)
 
-    -- the links lead from the origin to last and back, in as many steps as the chain has stones
-    unfoldable pub ring : Bool
-    ring =
-        all onRing (below (c .count))
-        && (eqb (stepped next (c .origin) (c .count - 1)) (c .last) && eqb (stepped next (c .origin) (c .count)) (c .origin))
-
-    -- its liberties are the empty points beside the stones of the ring
+    -- its liberties are the empty points beside those stones, and there is one
     unfoldable pub libertiesGood : Bool
-    libertiesGood = same (c .liberties) (setOf (shore (walked next (c .origin) (c .count))))
+    libertiesGood = same (c .liberties) (setOf (shore (found s (c .origin)))) && ltb 0 (number (c .liberties))
 
     unfoldable pub chainGood : Bool
-    chainGood = player (c .colour) && (ring && (libertiesGood && ltb 0 (number (c .liberties))))
+    chainGood = player (c .colour) && (eqb (own (c .origin)) s && (counted && (ring own next s c && libertiesGood)))
 
-    -- the slot has as many stones as it owns points: none, or those of a chain
     unfoldable pub slotGood : Bool
-    slotGood = eqb (c .count) (owned s) && (not (used c) || chainGood)
+    slotGood = not (used c) || chainGood
+
+-- ---- What the judge notes of each point: a stone that was found has its colour, behind the numbers of the slots
 
 module _ (b : Board) where
-  unfoldable pub originIn : ℕ → ℕ
-  originIn s = chainIn b s .origin
+  -- the slot that owns p is among the first n, and p was found from its origin
+  unfoldable pub foundBelow : ℕ → ℕ → Bool
+  foundBelow n p =
+      ltb (owner b p) n
+      && (used (chainIn b (owner b p)) && found (b .height) (b .width) (owner b) (owner b p) (chainIn b (owner b p) .origin) p)
 
-  unfoldable pub judged : Bool
-  judged =
-      sideGood (b .height) && (sideGood (b .width)
-      && (all (placed (b .height) (b .width) (owner b)) (below maxArea)
-      && (all (λ s. slotGood (b .height) (b .width) (owner b) (b .next) s (chainIn b s)) (below slots)
-      && (all (largest (b .height) (b .width) (owner b) (colourAt b)) (below (area (b .height) (b .width)))
-      && (all (joined (b .height) (b .width) (owner b) originIn) (below (area (b .height) (b .width)))
-      && eqb (b .hash) (hash (coloursOf b)))))))
+  unfoldable pub noted : ℕ → ℕ → ℕ
+  noted n p = cond (foundBelow n p) (slots + colourAt b p) (owner b p)
+
+-- the hash of the stones among the notes; an empty point's note is the number of slots, and a stone's that is not found yet is less
+unfoldable pub hashOf : ℕ → ℕ → (ℕ → ℕ) → ℕ
+hashOf h w note = hash (tabulate (λ p. note p - slots) 0 (area h w))
+
+module _ (own note : ℕ → ℕ) where
+  -- p and q have one owner, or notes apart
+  unfoldable pub apart : ℕ → ℕ → Bool
+  apart p q = eqb (own p) (own q) || not (eqb (note p) (note q))
+
+  -- p and the point to its left, and p and the point above
+  unfoldable pub rowApart : ℕ → ℕ → Bool
+  rowApart w p = eqb (column w p) 0 || apart p (p - 1)
+
+  unfoldable pub columnApart : ℕ → ℕ → Bool
+  columnApart w p = ltb p w || apart p (p - w)
+
+-- ---- All tests
+
+unfoldable pub judged : Board → Bool
+judged b =
+    sideGood (b .height) && (sideGood (b .width)
+    && (all (placed (b .height) (b .width) (owner b)) (below maxArea)
+    && (all (λ s. slotGood (b .height) (b .width) (owner b) (b .next) s (chainIn b s)) (below slots)
+    && (all (λ p. leb slots (noted b slots p)) (below (area (b .height) (b .width)))
+    && (all (rowApart (owner b) (noted b slots) (b .width)) (below (area (b .height) (b .width)))
+    && (all (columnApart (owner b) (noted b slots) (b .width)) (below (area (b .height) (b .width)))
+    && eqb (b .hash) (hashOf (b .height) (b .width) (noted b slots))))))))

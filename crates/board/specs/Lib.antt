@@ -2,5 +2,5 @@
 pub mod Board
 pub mod True
 pub mod Judge
-pub mod Search
+pub mod Flood
 pub mod Laws

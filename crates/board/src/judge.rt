@@ -1,12 +1,13 @@
 // The judge: whether a board, of whatever bytes, is a true board. Its time is linear in the number of points.
+use crate::edges::row_starts;
 use crate::goban::Board;
-use crate::owners::all_largest;
+use crate::owners::all_found;
 use crate::owners::all_placed;
-use crate::owners::hash_of;
-use crate::owners::tally;
-use crate::ring::slot_good;
-use crate::search::all_joined;
+use crate::owners::columns_apart;
+use crate::owners::rows_apart;
+use crate::slot::slot_good;
 use hashing::zobrist::table;
+use points::sizes::MAX_AREA;
 use points::sizes::MAX_SIDE;
 use points::sizes::SLOTS;
 ghost use mathlib.Core.Bool.{true};
@@ -37,25 +38,39 @@ pub fn judge(board: Board) -> bool
         return false;
     }
     let next = board.next;
-    let counts = tally(&owners, height, width);
-    let mut colours = [0u8; SLOTS];
-    let mut origins = [0u16; SLOTS];
+    let starts = row_starts(height, width);
+    let numbers = table();
+    let mut notes = owners;
+    let mut queue = [0u16; MAX_AREA];
+    let mut hash = 0u64;
     let mut slot = 0;
     while slot < SLOTS {
         let chain = board.chains[slot];
-        if !slot_good(&owners, &next, height, width, slot, counts[slot], chain) {
+        if !slot_good(
+            &owners,
+            &next,
+            &numbers,
+            &starts,
+            &mut notes,
+            &mut queue,
+            &mut hash,
+            height,
+            width,
+            slot,
+            chain,
+        ) {
             return false;
         }
-        colours[slot] = chain.colour;
-        origins[slot] = chain.origin;
         slot += 1;
     }
-    if !all_largest(&owners, &colours, height, width) {
+    if !all_found(&notes, height, width) {
         return false;
     }
-    if !all_joined(&owners, &origins, height, width) {
+    if !rows_apart(&owners, &starts, &notes, height, width) {
         return false;
     }
-    let numbers = table();
-    board.hash == hash_of(&numbers, &owners, &colours, height, width)
+    if !columns_apart(&owners, &notes, height, width) {
+        return false;
+    }
+    board.hash == hash
 }

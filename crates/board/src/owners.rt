@@ -1,21 +1,20 @@
-// What the judge asks of one point after another: its owner, its colour, whether it is well placed, whether stones of one colour
-// beside it have its owner, and the hash. The arrays are lent.
+// What the judge asks of one point after another: its owner, whether it is well placed, whether it was found, and whether the points
+// beside it that have its colour have its owner. The arrays are lent, and where no way leads out of a loop it is quick.
+use crate::goban::NO_CHAIN;
 use chains::group::index;
-use hashing::zobrist::stone_hash;
 use points::coord::area;
-use points::coord::neighbours;
-use points::sizes::HASH_ENTRIES;
 use points::sizes::MAX_AREA;
 use points::sizes::SLOTS;
-use points::stones::EMPTY;
 ghost use mathlib.Core.Path.{_≡_};
-ghost use Prim.Native.Nat.{ℕ, _≤_, _<_};
-ghost use lib.ListN.{length, getD};
-ghost use Rattle.rules.specs.Sizes.{maxArea, slots, hashEntries};
-ghost use Rattle.rules.specs.Lists.{tabulate, all, below};
+ghost use Prim.Native.Nat.{_≤_, _<_};
+ghost use lib.Dec.{leb};
+ghost use lib.ListN.{length};
+ghost use Rattle.rules.specs.Sizes.{maxArea, slots};
+ghost use Rattle.rules.specs.Lists.{all, below};
 ghost use Rattle.rules.specs.Points as rules;
-ghost use Rattle.rules.specs.Hash.{entry, hash};
-ghost use Rattle.board.specs.Judge.{ownerIn, slotValue, colourIn, placed, owned, apart, largest};
+ghost use Rattle.board.specs.Judge as tests;
+ghost use Rattle.board.specs.Judge.{ownerIn, placed, rowApart, columnApart};
+ghost use Rattle.board.specs.Flood.{RowStarts};
 
 // The slot that owns the point.
 pub fn owner_at(owners: &[u16; MAX_AREA], point: usize) -> usize
@@ -28,144 +27,85 @@ pub fn owner_at(owners: &[u16; MAX_AREA], point: usize) -> usize
     index(owners[point])
 }
 
-// The colour of a slot.
-fn colour_of(colours: &[u8; SLOTS], slot: usize) -> u8
-    requires { ⌜ length (now colours) ≡ slots ⌝ }
-    ensures { λ r. ⌜ r ≡ slotValue (now (colours .entry)) slot ⌝ }
-{
-    if SLOTS <= slot {
-        return EMPTY;
-    }
-    colours[slot]
-}
-
-pub fn colour_at(owners: &[u16; MAX_AREA], colours: &[u8; SLOTS], point: usize) -> u8
-    requires { ⌜ (length (now owners) ≡ maxArea) × (length (now colours) ≡ slots) ⌝ }
-    ensures { λ r. ⌜ r ≡ colourIn (now (owners .entry)) (now (colours .entry)) point ⌝ }
-{
-    colour_of(colours, owner_at(owners, point))
-}
-
 // A point of the board is owned by no chain or by a slot, and a point beyond the board by no chain.
-fn placed_at(owners: &[u16; MAX_AREA], height: u8, width: u8, point: usize) -> bool
-    requires { ⌜ length (now owners) ≡ maxArea ⌝ }
-    ensures { λ r. ⌜ r ≡ placed height width (ownerIn (now (owners .entry))) point ⌝ }
-{
-    let owner = owner_at(owners, point);
-    if owner == SLOTS {
-        return true;
-    }
-    point < area(height, width) && owner < SLOTS
-}
-
 pub fn all_placed(owners: &[u16; MAX_AREA], height: u8, width: u8) -> bool
-    requires { ⌜ length (now owners) ≡ maxArea ⌝ }
+    requires { ⌜ (length (now owners) ≡ maxArea) × (rules.area height width ≤ maxArea) ⌝ }
     ensures { λ r. ⌜ r ≡ all (placed height width (ownerIn (now (owners .entry)))) (below maxArea) ⌝ }
 {
+    let end = area(height, width);
+    let mut good = true;
     let mut point = 0;
+    while point < end {
+        good = good & (owners[point] <= NO_CHAIN);
+        point += 1;
+    }
     while point < MAX_AREA {
-        if !placed_at(owners, height, width, point) {
-            return false;
-        }
+        good = good & (owners[point] == NO_CHAIN);
         point += 1;
     }
-    true
+    good
 }
 
-// How many points each slot owns.
-pub fn tally(owners: &[u16; MAX_AREA], height: u8, width: u8) -> [u16; SLOTS]
-    requires { ⌜ (length (now owners) ≡ maxArea) × (rules.area height width ≤ maxArea) ⌝ }
-    ensures { λ r. ⌜ ((s : ℕ) → s < slots → getD r s 0 ≡ owned height width (ownerIn (now (owners .entry))) s) ⌝ }
-{
-    let mut counts = [0u16; SLOTS];
-    let end = area(height, width);
-    let mut point = 0;
-    while point < end {
-        let owner = owner_at(owners, point);
-        if owner < SLOTS {
-            counts[owner] = counts[owner] + 1;
-        }
-        point += 1;
-    }
-    counts
-}
-
-// No stone of one colour beside the other has another owner.
-fn apart_at(
-    owners: &[u16; MAX_AREA],
-    colours: &[u8; SLOTS],
-    height: u8,
-    width: u8,
-    point: usize,
-    beside: usize,
-) -> bool
-    requires { ⌜ (length (now owners) ≡ maxArea) × (length (now colours) ≡ slots) ⌝ }
-    ensures { λ r. ⌜ r ≡ apart height width (ownerIn (now (owners .entry))) (colourIn (now (owners .entry)) (now (colours .entry))) point beside ⌝ }
-{
-    let colour = colour_at(owners, colours, point);
-    if colour == EMPTY {
-        return true;
-    }
-    if colour != colour_at(owners, colours, beside) {
-        return true;
-    }
-    owner_at(owners, point) == owner_at(owners, beside)
-}
-
-fn largest_at(
-    owners: &[u16; MAX_AREA],
-    colours: &[u8; SLOTS],
-    height: u8,
-    width: u8,
-    point: usize,
-) -> bool
-    requires { ⌜ (length (now owners) ≡ maxArea) × (length (now colours) ≡ slots) ⌝ }
-    ensures { λ r. ⌜ r ≡ largest height width (ownerIn (now (owners .entry))) (colourIn (now (owners .entry)) (now (colours .entry))) point ⌝ }
-{
-    let around = neighbours(height, width, point);
-    let count = around.count;
-    let beside = around.points;
-    let mut i = 0;
-    while i < count {
-        if !apart_at(owners, colours, height, width, point, index(beside[i])) {
-            return false;
-        }
-        i += 1;
-    }
-    true
-}
-
-pub fn all_largest(owners: &[u16; MAX_AREA], colours: &[u8; SLOTS], height: u8, width: u8) -> bool
-    requires { ⌜ (length (now owners) ≡ maxArea) × (length (now colours) ≡ slots) ⌝ }
-    ensures { λ r. ⌜ r ≡ all (largest height width (ownerIn (now (owners .entry))) (colourIn (now (owners .entry)) (now (colours .entry)))) (below (rules.area height width)) ⌝ }
+// No stone is left as its slot's.
+pub fn all_found(notes: &[u16; MAX_AREA], height: u8, width: u8) -> bool
+    requires { ⌜ (length (now notes) ≡ maxArea) × (rules.area height width ≤ maxArea) ⌝ }
+    ensures { λ r. ⌜ r ≡ all (λ p. leb slots (ownerIn (now (notes .entry)) p)) (below (rules.area height width)) ⌝ }
 {
     let end = area(height, width);
+    let mut good = true;
     let mut point = 0;
     while point < end {
-        if !largest_at(owners, colours, height, width, point) {
-            return false;
-        }
+        good = good & (NO_CHAIN <= notes[point]);
         point += 1;
     }
-    true
+    good
 }
 
-// The hash of the stones: from the last point to the first, as the definition adds them up.
-pub fn hash_of(
-    table: &[u64; HASH_ENTRIES],
+fn apart(owners: &[u16; MAX_AREA], notes: &[u16; MAX_AREA], point: usize, beside: usize) -> bool
+    requires { ⌜ (length (now owners) ≡ maxArea) × (length (now notes) ≡ maxArea) × (point < maxArea) × (beside < maxArea) ⌝ }
+    ensures { λ r. ⌜ r ≡ tests.apart (ownerIn (now (owners .entry))) (ownerIn (now (notes .entry))) point beside ⌝ }
+{
+    (owners[point] == owners[beside]) | (notes[point] != notes[beside])
+}
+
+// Each point and the one to its left.
+pub fn rows_apart(
     owners: &[u16; MAX_AREA],
-    colours: &[u8; SLOTS],
+    starts: &[bool; MAX_AREA + 1],
+    notes: &[u16; MAX_AREA],
     height: u8,
     width: u8,
-) -> u64
-    requires { ⌜ (now table ≡ tabulate entry 0 hashEntries) × (length (now owners) ≡ maxArea) × (length (now colours) ≡ slots) × (rules.area height width ≤ maxArea) ⌝ }
-    ensures { λ r. ⌜ r ≡ hash (tabulate (colourIn (now (owners .entry)) (now (colours .entry))) 0 (rules.area height width)) ⌝ }
+) -> bool
+    requires { ⌜ (length (now owners) ≡ maxArea) × (length (now notes) ≡ maxArea) × RowStarts height width (now starts) × (rules.area height width ≤ maxArea) × (0 < rules.area height width) ⌝ }
+    ensures { λ r. ⌜ r ≡ all (rowApart (ownerIn (now (owners .entry))) (ownerIn (now (notes .entry))) width) (below (rules.area height width)) ⌝ }
 {
-    let mut hash = 0u64;
-    let mut point = area(height, width);
-    while 0 < point {
-        point -= 1;
-        hash = stone_hash(table, point, colour_at(owners, colours, point)) ^ hash;
+    let end = area(height, width);
+    let mut good = true;
+    let mut point = 1;
+    while point < end {
+        good = good & (starts[point] | apart(owners, notes, point, point - 1));
+        point += 1;
     }
-    hash
+    good
+}
+
+// Each point and the one above.
+pub fn columns_apart(
+    owners: &[u16; MAX_AREA],
+    notes: &[u16; MAX_AREA],
+    height: u8,
+    width: u8,
+) -> bool
+    requires { ⌜ (length (now owners) ≡ maxArea) × (length (now notes) ≡ maxArea) × (rules.area height width ≤ maxArea) × (width ≤ rules.area height width) ⌝ }
+    ensures { λ r. ⌜ r ≡ all (columnApart (ownerIn (now (owners .entry))) (ownerIn (now (notes .entry))) width) (below (rules.area height width)) ⌝ }
+{
+    let end = area(height, width);
+    let wide = width as usize;
+    let mut good = true;
+    let mut point = wide;
+    while point < end {
+        good = good & apart(owners, notes, point, point - wide);
+        point += 1;
+    }
+    good
 }

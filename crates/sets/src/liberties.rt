@@ -5,7 +5,7 @@ ghost use mathlib.Core.Path.{_≡_};
 ghost use Prim.Native.Nat.{_%_, _^_};
 ghost use lib.Count.{ones};
 ghost use lib.Dec.{eqb, ltb};
-ghost use Rattle.sets.specs.Liberties.{has, none, added, removed, united, number};
+ghost use Rattle.sets.specs.Liberties.{LibertySet, has, none, added, removed, united, number};
 
 // The byte whose one bit is the point's.
 fn mask(point: usize) -> u8
@@ -20,15 +20,23 @@ pub fn empty_liberties() -> [u8; LIBERTY_BYTES]
     [0u8; LIBERTY_BYTES]
 }
 
-// The set with the point. What is no point of the largest board changes nothing.
+// Puts the point into the set, in place. What is no point of the largest board changes nothing.
+pub fn insert_liberty(set: &mut [u8; LIBERTY_BYTES], point: usize)
+    requires { ⌜ LibertySet (now set) ⌝ }
+    ensures { λ r. ⌜ now (set .exit) ≡ added (now (set .entry)) point ⌝ }
+{
+    if point < MAX_AREA {
+        let i = point / 8;
+        set[i] = set[i] | mask(point);
+    }
+}
+
+// The set with the point.
 pub fn add_liberty(set: [u8; LIBERTY_BYTES], point: usize) -> [u8; LIBERTY_BYTES]
     ensures { λ r. ⌜ r ≡ added set point ⌝ }
 {
     let mut result = set;
-    if point < MAX_AREA {
-        let i = point / 8;
-        result[i] = result[i] | mask(point);
-    }
+    insert_liberty(&mut result, point);
     result
 }
 

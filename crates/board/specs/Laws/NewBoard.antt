@@ -43,7 +43,7 @@ module _ (h w : ℕ) where
       ⊎-elim (λ e. e) (λ n. ⊎-elim (one black noBlack) (one white noWhite) (is .known p n)) (equal-or-not (at cols p) empty))
 
 -- no stone adds nothing to the hash
-hash-none : (n p : ℕ) → hashFrom p (replicate n empty) ≡ 0
+pub hash-none : (n p : ℕ) → hashFrom p (replicate n empty) ≡ 0
 unfolding stoneHash
 hash-none zero p = refl
 hash-none (suc n) p = hash-none n (suc p)

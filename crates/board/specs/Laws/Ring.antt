@@ -1,26 +1,32 @@
 -- Laws of a ring of links: a walk that is back at its first point after n steps, and not before, meets n points and none twice; and
 -- the other way round. A ring of as many points as its slot owns is all that the slot owns.
 use mathlib.Core.Path.{_≡_, sym, ap, _∙_}
-use mathlib.Core.Bool.{Bool, true, _&&_}
-use mathlib.Core.List.{List, List·Memᴰ}
+use mathlib.Core.List.{List, List·Memᴰ, Memᴰ·cast}
 use mathlib.Core.Logic.{_≢_}
 use Prim.Native.Nat.{ℕ, _+_, _-_, _<_}
 use native.Mathlib.Nat.{zero-add}
 use native.Mathlib.Omega.{arith}
 use lib.Dec.{eqb}
-use borrow.Author.Tests.{eqb-true, eq-eqb}
-use Rattle.rules.specs.Sizes.{slots}
-use Rattle.rules.specs.Lists.{any, count, pick, below, has, Distinct}
-use Rattle.rules.specs.Points.{area, neighbours}
-use Rattle.rules.specs.Laws.Lists.{any-yes, any-some, mem-pick, mem-below, mem-has, has-mem, same-answer}
+use borrow.Author.Tests.{eq-eqb}
+use Rattle.rules.specs.Lists.{count, pick, below, Distinct}
+use Rattle.rules.specs.Points.{area}
+use Rattle.rules.specs.Laws.Lists.{mem-pick, mem-below}
 use Rattle.rules.specs.Laws.Counting.{length-pick}
-use Rattle.rules.specs.Laws.Distinct.{tabulate-distinct, distinct-tabulate, distinct-fills}
-use Rattle.rules.specs.Laws.Points.{neighbours-sym}
 use Rattle.chains.specs.Walk.{stepped, walked}
-use Rattle.chains.specs.Laws.Walk.{stepped-add, length-walked, walked-mem}
-use Rattle.board.specs.Judge.{shore}
+use Rattle.chains.specs.Laws.Walk.{stepped-add, length-walked}
+use Rattle.rules.specs.Laws.Lists.{tabulate-mem, mem-tabulate}
+use Rattle.rules.specs.Laws.Distinct.{tabulate-distinct, distinct-tabulate, distinct-fills}
 
 module _ (next : List ℕ) (o n : ℕ) where
+  -- the points of the walk are those that its steps meet
+  pub walked-step : {x : ℕ} → List·Memᴰ x (walked next o n) → (k : ℕ) × (k < n) × (x ≡ stepped next o k)
+  unfolding walked
+  walked-step m = let (k, l, e) = tabulate-mem (stepped next o) 0 n m in (k, l, e ∙ ap (stepped next o) (zero-add k))
+
+  pub step-walked : (k : ℕ) → k < n → List·Memᴰ (stepped next o k) (walked next o n)
+  unfolding walked
+  step-walked k l = Memᴰ·cast (ap (stepped next o) (sym (zero-add k))) (mem-tabulate (stepped next o) 0 n k l)
+
   -- were two of its points one, both walks on to the end would be one, and back too early
   pub ring-distinct : stepped next o n ≡ o → ((k : ℕ) → 0 < k → k < n → stepped next o k ≢ o) → Distinct (walked next o n)
   unfolding walked
@@ -49,7 +55,7 @@ module _ (h w : ℕ) (own : ℕ → ℕ) (next : List ℕ) (s o n : ℕ)
     (once : Distinct (walked next o n))
     (counted : n ≡ count (λ p. eqb (own p) s) (below (area h w))) where
   pub ring-owned : {p : ℕ} → List·Memᴰ p (walked next o n) → own p ≡ s
-  ring-owned m = let (k, l, e) = walked-mem next o n m in ap own e ∙ linked k l
+  ring-owned m = let (k, l, e) = walked-step next o n m in ap own e ∙ linked k l
 
   pub ring-fills : (p : ℕ) → own p ≡ s → List·Memᴰ p (walked next o n)
   ring-fills p e =
@@ -60,19 +66,3 @@ module _ (h w : ℕ) (own : ℕ → ℕ) (next : List ℕ) (s o n : ℕ)
     where
       theirs : (q : ℕ) → own q ≡ s → List·Memᴰ q (pick (λ r. eqb (own r) s) (below (area h w)))
       theirs q e = mem-pick (λ r. eqb (own r) s) (mem-below (area h w) q (on q e)) (eq-eqb (own q) s e)
-
-  -- an empty point lies beside a stone of the ring if and only if a stone of the slot lies beside it
-  pub shore-liberty :
-      (q : ℕ) → shore h w own (walked next o n) q ≡ (eqb (own q) slots && any (λ r. eqb (own r) s) (neighbours h w q))
-  unfolding shore
-  shore-liberty q = ap (λ (t : Bool). eqb (own q) slots && t) (same-answer there back)
-    where
-      there : any (λ p. has (neighbours h w p) q) (walked next o n) ≡ true → any (λ r. eqb (own r) s) (neighbours h w q) ≡ true
-      there e =
-          let (p, m, y) = any-some (λ p. has (neighbours h w p) q) (walked next o n) e in
-          any-yes (λ r. eqb (own r) s) (neighbours-sym h w p q (has-mem (neighbours h w p) q y)) (eq-eqb (own p) s (ring-owned m))
-
-      back : any (λ r. eqb (own r) s) (neighbours h w q) ≡ true → any (λ p. has (neighbours h w p) q) (walked next o n) ≡ true
-      back e =
-          let (r, m, y) = any-some (λ r. eqb (own r) s) (neighbours h w q) e in
-          any-yes (λ p. has (neighbours h w p) q) (ring-fills r (eqb-true (own r) s y)) (mem-has (neighbours-sym h w q r m))

@@ -1,29 +1,35 @@
--- Laws of the whole judgement: what arrays filled from the chains say is what the board says, each test that fails is a no, and when all
--- but the hash are passed the hash decides.
-use mathlib.Core.Path.{_≡_, refl, sym, ap, ap₂, _∙_, fun-ext}
-use mathlib.Core.Bool.{Bool, true, false, not, _&&_}
+-- Laws of the whole judgement: what the notes say after some slots, that each test that fails is a no, and that when all but the hash are
+-- passed the hash decides.
+use mathlib.Core.Path.{_≡_, refl, sym, ap, _∙_, subst, fun-ext}
+use mathlib.Core.Bool.{Bool, true, false, cond, not, _&&_}
 use mathlib.Core.List.{List}
-use mathlib.Core.Logic.{⊎-elim}
-use Prim.Native.Nat.{ℕ, _+_, _≤_, _<_}
-use native.Mathlib.Nat.{mul-le-mul}
+use mathlib.Core.Logic.{_≢_, ⊎-elim}
+use Prim.Native.Nat.{ℕ, _+_, _-_, _≤_, _<_}
+use native.Mathlib.Nat.{mul-le-mul, mul-le-mul-right, mul-pos, one-mul}
 use native.Mathlib.Omega.{arith}
-use lib.Dec.{eqb, ltb}
-use lib.ListN.{length, getD, set, replicate, length-set, length-replicate, List·getD-eq-default}
-use lib.Seq.{getD-set-same, getD-set-other}
+use lib.Dec.{eqb, ltb, leb}
+use lib.ListN.{length, getD, replicate, length-replicate}
+use lib.Seq.{ext-getD}
 use borrow.Author.Count.{below-none, below-more}
-use borrow.Author.Tests.{ltb-true, ltb-false, not-true}
-use Rattle.rules.specs.Sizes.{maxSide, maxArea, slots}
+use borrow.Author.Tests.{ltb-true, ltb-false, lt-ltb, le-ltb, not-true, eq-eqb, ne-eqb, eqb-true}
+use Rattle.rules.specs.Sizes.{maxSide, maxArea, slots, hashEntries}
 use Rattle.rules.specs.Lists.{all, below, tabulate}
 use Rattle.rules.specs.Points.{area}
-use Rattle.rules.specs.Hash.{hash}
-use Rattle.rules.specs.Laws.Lists.{and-right, decided, equal-or-not}
+use Rattle.rules.specs.Colours.{empty}
+use Rattle.rules.specs.Hash.{entry, hash}
+use Rattle.rules.specs.Laws.Lists.{and-left, and-right, all-each, mem-below, decided, equal-or-not, not-both, getD-within, length-tabulate, getD-tabulate-zero, getD-replicate-same}
+use Rattle.rules.specs.Laws.Colours.{player-stone}
 use Rattle.chains.specs.declared.group.Chain.{Chain}
-use Rattle.chains.specs.Group.{freeChain}
+use Rattle.chains.specs.Group.{used}
 use Rattle.board.specs.declared.goban.Board.{Board}
-use Rattle.board.specs.Board.{owner, chainIn, colourAt, coloursOf}
+use Rattle.board.specs.Board.{owner, chainIn, colourAt}
 use Rattle.board.specs.True.{Shaped}
-use Rattle.board.specs.Judge.{ownerIn, slotValue, colourIn, originIn, sideGood, placed, slotGood, largest, joined, judged}
-use Rattle.board.specs.Laws.Lists.{all-below, all-fails-below}
+use Rattle.board.specs.Judge.{ownerIn, sideGood, placed, found, slotGood, foundBelow, noted, hashOf, rowApart, columnApart, judged}
+use Rattle.board.specs.Flood.{RowStarts, Lent, Passed}
+use Rattle.board.specs.Laws.Lists.{all-below, all-fails-below, and-fails, then-fails}
+use Rattle.board.specs.Laws.NewBoard.{hash-none}
+use Rattle.board.specs.Laws.Found.{found-not}
+use Rattle.board.specs.Laws.Tests.{Placed, placed-says, slot-says}
 
 -- ---- Sizes
 
@@ -31,126 +37,246 @@ side-low : (n : ℕ) → sideGood n ≡ true → n ≤ maxSide
 unfolding sideGood
 side-low n e = ltb-false maxSide n (not-true (ltb maxSide n) (and-right (ltb 0 n) (not (ltb maxSide n)) e))
 
+pub side-some : (n : ℕ) → sideGood n ≡ true → 0 < n
+unfolding sideGood
+side-some n e = ltb-true 0 n (and-left (ltb 0 n) (not (ltb maxSide n)) e)
+
 pub sides-fit : (h w : ℕ) → sideGood h ≡ true → sideGood w ≡ true → area h w ≤ maxArea
 unfolding area
 sides-fit h w tall wide = mul-le-mul (side-low h tall) (side-low w wide)
 
--- ---- Arrays filled from the chains
+pub sides-some : (h w : ℕ) → 0 < h → 0 < w → 0 < area h w
+unfolding area
+sides-some h w tall wide = mul-pos tall wide
 
--- an array has the first n slots' values
-pub record Filled (value : Chain → ℕ) (b : Board) (values : List ℕ) (n : ℕ) : Type 0 where
-  pub long : length values ≡ slots
-  pub given : (s : ℕ) → s < n → getD values s 0 ≡ value (chainIn b s)
+pub sides-wide : (h w : ℕ) → 0 < h → w ≤ area h w
+unfolding area
+sides-wide h w tall = let one = mul-le-mul-right w tall in omega (arith, one-mul w)
 
-module _ (value : Chain → ℕ) (b : Board) where
-  pub filled-none : Filled value b (replicate slots 0) 0
-  filled-none = record { long = length-replicate {A = ℕ} slots 0; given = below-none _ }
+-- ---- Points that are well placed
 
-  pub filled-next : {values : List ℕ} {n x : ℕ} → Filled value b values n → n < slots → x ≡ value (chainIn b n) → Filled value b (set values n x) (n + 1)
-  filled-next {values} {n} {x} is l e = record {
-    long = length-set values n x ∙ is .long;
-    given =
-        below-more (λ s. getD (set values n x) s 0 ≡ value (chainIn b s)) n
-        (λ s h. getD-set-other values n s x 0 (λ q. omega arith) ∙ is .given s h)
-        (getD-set-same values n x 0 (omega (arith, is .long)) ∙ e);
+-- after some slots: those passed are good, and their stones are noted
+pub record Judging (b : Board) (notes queue : List ℕ) (sum slot : ℕ) : Type 0 where
+  pub within : slot ≤ slots
+  pub good : (s : ℕ) → s < slot → slotGood (b .height) (b .width) (owner b) (b .next) s (chainIn b s) ≡ true
+  pub notesLong : length notes ≡ maxArea
+  pub queueLong : length queue ≡ maxArea
+  pub hashed : sum ≡ hashOf (b .height) (b .width) (ownerIn notes)
+  pub notes-are : (p : ℕ) → ownerIn notes p ≡ noted b slot p
+
+module _ (b : Board) (shape : Shaped b) (on : all (placed (b .height) (b .width) (owner b)) (below maxArea) ≡ true) where
+  placed-at : (p : ℕ) → owner b p ≢ slots → (p < area (b .height) (b .width)) × (owner b p < slots)
+  unfolding owner
+  placed-at p n =
+      let within : p < maxArea = omega (arith, getD-within (b .owners) p slots n, shape .owners) in
+      ⊎-elim (λ e. absurd (n e)) (λ t. t) (placed-says (b .height) (b .width) (owner b) p .0 (all-each (placed (b .height) (b .width) (owner b)) on (mem-below maxArea p within)))
+
+  pub placed-low : (p : ℕ) → owner b p ≤ slots
+  placed-low p = ⊎-elim (λ e. omega arith) (λ n. let (_, l) = placed-at p n in omega arith) (equal-or-not (owner b p) slots)
+
+  placed-on : (p : ℕ) → owner b p < slots → p < area (b .height) (b .width)
+  placed-on p l = placed-at p (λ e. omega arith) .0
+
+  -- ---- The notes, slot by slot
+
+  -- before the first slot they are the owners
+  noted-none : (p : ℕ) → noted b 0 p ≡ owner b p
+  unfolding noted foundBelow
+  noted-none p =
+      ap
+      (λ (t : Bool).
+      cond (t && (used (chainIn b (owner b p)) && found (b .height) (b .width) (owner b) (owner b p) (chainIn b (owner b p) .origin) p)) (slots + colourAt b p) (owner b p))
+      (le-ltb (owner b p) 0 (omega arith))
+
+  -- and have no stone's number in the hash
+  hash-start : 0 ≡ hashOf (b .height) (b .width) (owner b)
+  unfolding hashOf hash
+  hash-start =
+      let n = area (b .height) (b .width) in
+      let cols = tabulate (λ p. owner b p - slots) 0 n in
+      sym
+      (ap hash
+      (ext-getD empty cols (replicate n empty) (length-tabulate (λ p. owner b p - slots) 0 n ∙ sym (length-replicate {A = ℕ} n empty))
+      (λ p l.
+      let low = placed-low p in
+      getD-tabulate-zero (λ p. owner b p - slots) n p empty (omega (arith, length-tabulate (λ p. owner b p - slots) 0 n))
+      ∙ omega arith
+      ∙ sym (getD-replicate-same n p empty)))
+      ∙ hash-none n 0)
+
+  -- one slot more
+  noted-next :
+      (n p : ℕ) →
+      cond (used (chainIn b n) && found (b .height) (b .width) (owner b) n (chainIn b n .origin) p) (slots + chainIn b n .colour) (noted b n p)
+      ≡ noted b (n + 1) p
+  unfolding noted foundBelow colourAt
+  noted-next n p = ⊎-elim here else (equal-or-not (owner b p) n)
+    where
+      test : ℕ → Bool
+      test s = used (chainIn b s) && found (b .height) (b .width) (owner b) s (chainIn b s .origin) p
+
+      here :
+          owner b p ≡ n →
+          cond (test n) (slots + chainIn b n .colour) (cond (ltb (owner b p) n && test (owner b p)) (slots + chainIn b (owner b p) .colour) (owner b p))
+          ≡ cond (ltb (owner b p) (n + 1) && test (owner b p)) (slots + chainIn b (owner b p) .colour) (owner b p)
+      here e =
+          ap (λ (s : ℕ). cond (test s) (slots + chainIn b s .colour) (cond (ltb (owner b p) n && test (owner b p)) (slots + chainIn b (owner b p) .colour) (owner b p)))
+          (sym e)
+          ∙ ap (λ (t : Bool). cond (test (owner b p)) (slots + chainIn b (owner b p) .colour) (cond (t && test (owner b p)) (slots + chainIn b (owner b p) .colour) (owner b p)))
+          (le-ltb (owner b p) n (omega arith))
+          ∙ ap (λ (t : Bool). cond (t && test (owner b p)) (slots + chainIn b (owner b p) .colour) (owner b p)) (sym (lt-ltb (owner b p) (n + 1) (omega arith)))
+
+      else :
+          owner b p ≢ n →
+          cond (test n) (slots + chainIn b n .colour) (cond (ltb (owner b p) n && test (owner b p)) (slots + chainIn b (owner b p) .colour) (owner b p))
+          ≡ cond (ltb (owner b p) (n + 1) && test (owner b p)) (slots + chainIn b (owner b p) .colour) (owner b p)
+      else a =
+          ap (λ (t : Bool). cond t (slots + chainIn b n .colour) (cond (ltb (owner b p) n && test (owner b p)) (slots + chainIn b (owner b p) .colour) (owner b p)))
+          (then-fails (used (chainIn b n)) (found-not (b .height) (b .width) (owner b) n (chainIn b n .origin) p a))
+          ∙ ap (λ (t : Bool). cond (t && test (owner b p)) (slots + chainIn b (owner b p) .colour) (owner b p))
+          (⊎-elim (λ l. l ∙ sym (lt-ltb (owner b p) (n + 1) (let k = ltb-true (owner b p) n l in omega arith)))
+          (λ f. f ∙ sym (le-ltb (owner b p) (n + 1) (let k = ltb-false (owner b p) n f in omega arith))) (decided (ltb (owner b p) n)))
+
+  -- ---- After some slots
+
+  pub judging-begin : Judging b (b .owners) (replicate maxArea 0) 0 0
+  unfolding owner ownerIn
+  judging-begin = record {
+    within = omega arith;
+    good = below-none _;
+    notesLong = shape .owners;
+    queueLong = length-replicate {A = ℕ} maxArea 0;
+    hashed = hash-start;
+    notes-are = λ p. sym (noted-none p);
   }
 
-  -- no chain is a free one, and what is beyond the array is 0
-  pub filled-all : {values : List ℕ} {n : ℕ} → Shaped b → value freeChain ≡ 0 → Filled value b values n → slots ≤ n → (s : ℕ) → slotValue values s ≡ value (chainIn b s)
-  unfolding slotValue chainIn
-  filled-all {values} shape free is l s =
-      ⊎-elim
-      (λ t. is .given s (let h = ltb-true s slots t in omega arith))
-      (λ f.
-      let beyond = ltb-false s slots f in
-      List·getD-eq-default values 0 {n = s} (omega (arith, is .long))
-      ∙ sym (ap value (List·getD-eq-default (b .chains) freeChain {n = s} (omega (arith, shape .chains))) ∙ free))
-      (decided (ltb s slots))
+  module _ {notes queue : List ℕ} {sum slot : ℕ} (is : Judging b notes queue sum slot) (low : slot < slots) where
+    -- a stone that was found is of a slot passed, and has a colour
+    noted-other : (p : ℕ) → foundBelow b slot p ≡ true → (owner b p < slot) × (noted b slot p ≢ slots) × (slots ≤ noted b slot p)
+    unfolding noted foundBelow colourAt
+    noted-other p t =
+        let s = owner b p in
+        let under : s < slot = ltb-true s slot (and-left (ltb s slot) _ t) in
+        let u : used (chainIn b s) ≡ true = and-left _ _ (and-right (ltb s slot) _ t) in
+        let told = ⊎-elim (λ n. absurd (n u)) (λ x. x) (slot-says (b .height) (b .width) (owner b) (b .next) s (chainIn b s) .0 (is .good s under)) in
+        let stone = player-stone (chainIn b s .colour) (told .colour) in
+        let e : cond (foundBelow b slot p) (slots + chainIn b s .colour) s ≡ slots + chainIn b s .colour = ap (λ (x : Bool). cond x (slots + chainIn b s .colour) s) t in
+        (under, λ z. stone (omega arith), omega arith)
 
--- ---- What the arrays say is what the board says, and so each test of the code is one of the judgement
+    noted-owner : (p : ℕ) → foundBelow b slot p ≡ false → noted b slot p ≡ owner b p
+    unfolding noted
+    noted-owner p f = ap (λ (t : Bool). cond t (slots + colourAt b p) (owner b p)) f
 
-first : {a : Bool} (x : Bool) → a ≡ false → (a && x) ≡ false
-first x e = rw e
+    pub judging-lent :
+        {table : List ℕ} {starts : List Bool} → table ≡ tabulate entry 0 hashEntries → RowStarts (b .height) (b .width) starts
+        → area (b .height) (b .width) ≤ maxArea → Lent (b .height) (b .width) slot (b .owners) (b .next) table starts notes queue sum
+    unfolding owner ownerIn
+    judging-lent numbers starting fits = record {
+      low = low;
+      fits = fits;
+      ownersLong = shape .owners;
+      linksLong = shape .links;
+      notesLong = is .notesLong;
+      queueLong = is .queueLong;
+      numbers = numbers;
+      starting = starting;
+      hashed = is .hashed;
+      standing = placed-on;
+      ours = λ p.
+          ap (λ (x : ℕ). eqb x slot) (is .notes-are p)
+          ∙ ⊎-elim
+          (λ t. let (under, _, above) = noted-other p t in ne-eqb (noted b slot p) slot (λ z. omega arith) ∙ sym (ne-eqb (owner b p) slot (λ z. omega arith)))
+          (λ f. ap (λ (x : ℕ). eqb x slot) (noted-owner p f)) (decided (foundBelow b slot p));
+      vacant = λ p.
+          ap (λ (x : ℕ). eqb x slots) (is .notes-are p)
+          ∙ ⊎-elim (λ t. let (under, n, _) = noted-other p t in ne-eqb (noted b slot p) slots n ∙ sym (ne-eqb (owner b p) slots (λ z. omega arith)))
+          (λ f. ap (λ (x : ℕ). eqb x slots) (noted-owner p f)) (decided (foundBelow b slot p));
+    }
 
-later : (a : Bool) {x : Bool} → x ≡ false → (a && x) ≡ false
-later true e = e
-later false e = refl
+    pub judging-next :
+        {notes′ queue′ : List ℕ} {sum′ : ℕ} {chain : Chain} → chain ≡ chainIn b slot
+        → slotGood (b .height) (b .width) (owner b) (b .next) slot (chainIn b slot) ≡ true
+        → Passed (b .height) (b .width) (λ p. used chain && found (b .height) (b .width) (owner b) slot (chain .origin) p) (chain .colour) notes notes′ queue′ sum′
+        → Judging b notes′ queue′ sum′ (slot + 1)
+    judging-next {notes′} {queue′} {sum′} {chain} at good passed = record {
+      within = omega arith;
+      good = below-more _ slot (is .good) good;
+      notesLong = passed .notesLong;
+      queueLong = passed .queueLong;
+      hashed = passed .hashed;
+      notes-are = λ p.
+          passed .painted p
+          ∙ ap (λ (c : Chain). cond (used c && found (b .height) (b .width) (owner b) slot (c .origin) p) (slots + c .colour) (ownerIn notes p)) at
+          ∙ ap (cond (used (chainIn b slot) && found (b .height) (b .width) (owner b) slot (chainIn b slot .origin) p) (slots + chainIn b slot .colour)) (is .notes-are p)
+          ∙ noted-next slot p;
+    }
+
+  -- after all of them
+  module _ {notes queue : List ℕ} {sum slot : ℕ} (is : Judging b notes queue sum slot) (done : slots ≤ slot) where
+    pub notes-all : ownerIn notes ≡ noted b slots
+    notes-all = fun-ext (λ p. is .notes-are p ∙ ap (λ (n : ℕ). noted b n p) (let e : slot ≡ slots = omega (arith, is .within) in e))
+
+-- ---- Each test of the code is one of the judgement
 
 module _ (b : Board) where
+  abbrev slotsGood : Bool
+  slotsGood = all (λ s. slotGood (b .height) (b .width) (owner b) (b .next) s (chainIn b s)) (below slots)
+
+  abbrev pub seenGood : (ℕ → ℕ) → Bool
+  seenGood note = all (λ p. leb slots (note p)) (below (area (b .height) (b .width)))
+
+  abbrev pub rowsGood : (ℕ → ℕ) → Bool
+  rowsGood note = all (rowApart (owner b) note (b .width)) (below (area (b .height) (b .width)))
+
+  abbrev pub columnsGood : (ℕ → ℕ) → Bool
+  columnsGood note = all (columnApart (owner b) note (b .width)) (below (area (b .height) (b .width)))
+
+  abbrev allPlaced : Bool
+  allPlaced = all (placed (b .height) (b .width) (owner b)) (below maxArea)
+
   pub no-height : sideGood (b .height) ≡ false → judged b ≡ false
   unfolding judged
-  no-height e = first _ e
+  no-height e = and-fails _ e
 
   pub no-width : sideGood (b .width) ≡ false → judged b ≡ false
   unfolding judged
-  no-width e = later (sideGood (b .height)) (first _ e)
+  no-width e = then-fails (sideGood (b .height)) (and-fails _ e)
 
-  pub not-placed : all (placed (b .height) (b .width) (ownerIn (b .owners))) (below maxArea) ≡ false → judged b ≡ false
-  unfolding judged owner ownerIn
-  not-placed e = later (sideGood (b .height)) (later (sideGood (b .width)) (first _ e))
+  pub not-placed : allPlaced ≡ false → judged b ≡ false
+  unfolding judged
+  not-placed e = then-fails (sideGood (b .height)) (then-fails (sideGood (b .width)) (and-fails _ e))
 
-  pub bad-slot : (s : ℕ) → s < slots → slotGood (b .height) (b .width) (ownerIn (b .owners)) (b .next) s (chainIn b s) ≡ false → judged b ≡ false
-  unfolding judged owner ownerIn
+  pub bad-slot : (s : ℕ) → s < slots → slotGood (b .height) (b .width) (owner b) (b .next) s (chainIn b s) ≡ false → judged b ≡ false
+  unfolding judged
   bad-slot s l e =
-      later (sideGood (b .height))
-      (later (sideGood (b .width))
-      (later (all (placed (b .height) (b .width) (owner b)) (below maxArea))
-      (first _ (all-fails-below (λ s. slotGood (b .height) (b .width) (owner b) (b .next) s (chainIn b s)) slots s l e))))
+      then-fails (sideGood (b .height)) (then-fails (sideGood (b .width)) (then-fails allPlaced
+      (and-fails _ (all-fails-below (λ s. slotGood (b .height) (b .width) (owner b) (b .next) s (chainIn b s)) slots s l e))))
 
-  module _ (colours : List ℕ) (are : (s : ℕ) → slotValue colours s ≡ chainIn b s .colour) where
-    colour-in : colourIn (b .owners) colours ≡ colourAt b
-    unfolding colourIn ownerIn colourAt owner
-    colour-in = fun-ext (λ p. are (owner b p))
+  pub not-seen : seenGood (noted b slots) ≡ false → judged b ≡ false
+  unfolding judged
+  not-seen e = then-fails (sideGood (b .height)) (then-fails (sideGood (b .width)) (then-fails allPlaced (then-fails slotsGood (and-fails _ e))))
 
-    same-largest :
-        all (largest (b .height) (b .width) (ownerIn (b .owners)) (colourIn (b .owners) colours)) (below (area (b .height) (b .width)))
-        ≡ all (largest (b .height) (b .width) (owner b) (colourAt b)) (below (area (b .height) (b .width)))
-    unfolding owner ownerIn
-    same-largest = ap (λ (col : ℕ → ℕ). all (largest (b .height) (b .width) (owner b) col) (below (area (b .height) (b .width)))) colour-in
+  pub not-rows : rowsGood (noted b slots) ≡ false → judged b ≡ false
+  unfolding judged
+  not-rows e =
+      then-fails (sideGood (b .height)) (then-fails (sideGood (b .width)) (then-fails allPlaced (then-fails slotsGood
+      (then-fails (seenGood (noted b slots)) (and-fails _ e)))))
 
-    pub not-largest :
-        all (largest (b .height) (b .width) (ownerIn (b .owners)) (colourIn (b .owners) colours)) (below (area (b .height) (b .width))) ≡ false
-        → judged b ≡ false
-    unfolding judged
-    not-largest e =
-        later (sideGood (b .height))
-        (later (sideGood (b .width))
-        (later (all (placed (b .height) (b .width) (owner b)) (below maxArea))
-        (later (all (λ s. slotGood (b .height) (b .width) (owner b) (b .next) s (chainIn b s)) (below slots)) (first _ (sym same-largest ∙ e)))))
+  pub not-columns : columnsGood (noted b slots) ≡ false → judged b ≡ false
+  unfolding judged
+  not-columns e =
+      then-fails (sideGood (b .height)) (then-fails (sideGood (b .width)) (then-fails allPlaced (then-fails slotsGood
+      (then-fails (seenGood (noted b slots)) (then-fails (rowsGood (noted b slots)) (and-fails _ e))))))
 
-    module _ (origins : List ℕ) (too : (s : ℕ) → slotValue origins s ≡ chainIn b s .origin) where
-      same-joined :
-          all (joined (b .height) (b .width) (ownerIn (b .owners)) (slotValue origins)) (below (area (b .height) (b .width)))
-          ≡ all (joined (b .height) (b .width) (owner b) (originIn b)) (below (area (b .height) (b .width)))
-      unfolding owner ownerIn originIn
-      same-joined = ap (λ (origin : ℕ → ℕ). all (joined (b .height) (b .width) (owner b) origin) (below (area (b .height) (b .width)))) (fun-ext too)
-
-      pub not-joined :
-          all (joined (b .height) (b .width) (ownerIn (b .owners)) (slotValue origins)) (below (area (b .height) (b .width))) ≡ false → judged b ≡ false
-      unfolding judged
-      not-joined e =
-          later (sideGood (b .height))
-          (later (sideGood (b .width))
-          (later (all (placed (b .height) (b .width) (owner b)) (below maxArea))
-          (later (all (λ s. slotGood (b .height) (b .width) (owner b) (b .next) s (chainIn b s)) (below slots))
-          (later (all (largest (b .height) (b .width) (owner b) (colourAt b)) (below (area (b .height) (b .width)))) (first _ (sym same-joined ∙ e))))))
-
-      pub hash-decides :
-          sideGood (b .height) ≡ true
-          → sideGood (b .width) ≡ true
-          → all (placed (b .height) (b .width) (ownerIn (b .owners))) (below maxArea) ≡ true
-          → ((s : ℕ) → s < slots → slotGood (b .height) (b .width) (ownerIn (b .owners)) (b .next) s (chainIn b s) ≡ true)
-          → all (largest (b .height) (b .width) (ownerIn (b .owners)) (colourIn (b .owners) colours)) (below (area (b .height) (b .width))) ≡ true
-          → all (joined (b .height) (b .width) (ownerIn (b .owners)) (slotValue origins)) (below (area (b .height) (b .width))) ≡ true
-          → judged b ≡ eqb (b .hash) (hash (tabulate (colourIn (b .owners) colours) 0 (area (b .height) (b .width))))
-      unfolding judged owner ownerIn coloursOf
-      hash-decides tall wide on good far near =
-          rw (
-            tall,
-            wide,
-            on,
-            all-below (λ s. slotGood (b .height) (b .width) (owner b) (b .next) s (chainIn b s)) slots good,
-            sym same-largest ∙ far,
-            sym same-joined ∙ near,
-          )
-          (ap (λ (col : ℕ → ℕ). eqb (b .hash) (hash (tabulate col 0 (area (b .height) (b .width))))) (sym colour-in))
+  pub hash-decides :
+      sideGood (b .height) ≡ true
+      → sideGood (b .width) ≡ true
+      → allPlaced ≡ true
+      → ((s : ℕ) → s < slots → slotGood (b .height) (b .width) (owner b) (b .next) s (chainIn b s) ≡ true)
+      → seenGood (noted b slots) ≡ true
+      → rowsGood (noted b slots) ≡ true
+      → columnsGood (noted b slots) ≡ true
+      → judged b ≡ eqb (b .hash) (hashOf (b .height) (b .width) (noted b slots))
+  unfolding judged
+  hash-decides tall wide on good seen far near =
+      rw (tall, wide, on, all-below (λ s. slotGood (b .height) (b .width) (owner b) (b .next) s (chainIn b s)) slots good, seen, far, near)

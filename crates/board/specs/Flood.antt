@@ -1,0 +1,84 @@
+-- What the flood of one slot leaves behind: points that it painted, a queue of them, and the liberties beside those it looked at.
+use mathlib.Core.Path.{_≡_}
+use mathlib.Core.Bool.{Bool, true, cond, _&&_, _||_}
+use mathlib.Core.List.{List}
+use Prim.Native.Nat.{ℕ, _+_, _≤_, _<_}
+use lib.Dec.{eqb}
+use lib.Bits.{bitXor}
+use lib.ListN.{length, getD, set}
+use Rattle.rules.specs.Sizes.{maxArea, slots, hashEntries}
+use Rattle.rules.specs.Lists.{count, below, has, tabulate}
+use Rattle.rules.specs.Points.{area, column}
+use Rattle.rules.specs.Flood.{marked}
+use Rattle.rules.specs.Hash.{entry, stoneHash}
+use Rattle.sets.specs.Liberties.{setOf}
+use Rattle.board.specs.Judge.{ownerIn, found, shore, hashOf}
+
+-- which points begin a row, and whether the point behind the last does
+pub record RowStarts (h w : ℕ) (starts : List Bool) : Type 0 where
+  pub long : length starts ≡ maxArea + 1
+  pub begins : (p : ℕ) → p ≤ area h w → marked starts p ≡ eqb (column w p) 0
+
+-- a stone of colour c is noted, stands in the queue and is in the hash
+pub record Queued (c point : ℕ) (notes queue : List ℕ) (tail sum : ℕ) (notes′ queue′ : List ℕ) (tail′ sum′ : ℕ) : Type 0 where
+  pub noted : notes′ ≡ set notes point (slots + c)
+  pub queued : queue′ ≡ set queue tail point
+  pub counted : tail′ ≡ tail + 1
+  pub hashed : sum′ ≡ bitXor sum (stoneHash point c)
+
+-- a slot and a player's colour, and the notes and the queue with room for all that the slot still has
+pub record Ready (h w s c : ℕ) (notes queue : List ℕ) (tail sum : ℕ) : Type 0 where
+  pub low : s < slots
+  pub coloured : 0 < c
+  pub fits : area h w ≤ maxArea
+  pub notesLong : length notes ≡ maxArea
+  pub queueLong : length queue ≡ maxArea
+  pub room : tail + count (λ p. eqb (ownerIn notes p) s) (below (area h w)) ≤ maxArea
+  pub hashed : sum ≡ hashOf h w (ownerIn notes)
+
+-- p is one of the points, and the slot still has it
+unfoldable pub wanted : ℕ → List ℕ → List ℕ → ℕ → Bool
+wanted s ps notes p = has ps p && eqb (ownerIn notes p) s
+
+-- the points were looked at: those that the slot still had are painted and stand in the queue, and the empty ones are in the set
+pub record Looked (h w s c : ℕ) (ps notes queue free : List ℕ) (tail : ℕ) (notes′ queue′ free′ : List ℕ) (tail′ sum′ : ℕ) : Type 0 where
+  pub ready : Ready h w s c notes′ queue′ tail′ sum′
+  pub longer : tail ≤ tail′
+  pub kept : (k : ℕ) → k < tail → getD queue′ k 0 ≡ getD queue k 0
+  pub painted : (p : ℕ) → ownerIn notes′ p ≡ cond (wanted s ps notes p) (slots + c) (ownerIn notes p)
+  pub taken : (k : ℕ) → tail ≤ k → k < tail′ → wanted s ps notes (getD queue′ k 0) ≡ true
+  pub stands : (p : ℕ) → wanted s ps notes p ≡ true → (k : ℕ) × (k < tail′) × (getD queue′ k 0 ≡ p)
+  -- each new entry is one less to find
+  pub balance :
+      tail′ + count (λ p. eqb (ownerIn notes′ p) s) (below (area h w)) ≡ tail + count (λ p. eqb (ownerIn notes p) s) (below (area h w))
+  pub shored : (f : ℕ → Bool) → free ≡ setOf f → free′ ≡ setOf (λ q. f q || (eqb (ownerIn notes q) slots && has ps q))
+
+-- the points that pass the test are painted
+pub record Passed (h w : ℕ) (test : ℕ → Bool) (c : ℕ) (notes notes′ queue′ : List ℕ) (sum′ : ℕ) : Type 0 where
+  pub notesLong : length notes′ ≡ maxArea
+  pub queueLong : length queue′ ≡ maxArea
+  pub hashed : sum′ ≡ hashOf h w (ownerIn notes′)
+  pub painted : (p : ℕ) → ownerIn notes′ p ≡ cond (test p) (slots + c) (ownerIn notes p)
+
+-- the flood is over: what is joined with o by points of the slot is painted, counted, and its empty neighbours are in the set
+pub record Flooded (h w s c o : ℕ) (notes notes′ queue′ free′ : List ℕ) (n sum′ : ℕ) : Type 0 where
+  pub passed : Passed h w (found h w (ownerIn notes) s o) c notes notes′ queue′ sum′
+  pub counted : n ≡ count (found h w (ownerIn notes) s o) (below (area h w))
+  pub shored : free′ ≡ setOf (shore h w (ownerIn notes) (found h w (ownerIn notes) s o))
+
+-- ---- One slot after another
+
+-- what is lent to judge a slot: of the slot's points and of the empty ones the notes say what the owners say
+pub record Lent (h w s : ℕ) (owners next table : List ℕ) (starts : List Bool) (notes queue : List ℕ) (sum : ℕ) : Type 0 where
+  pub low : s < slots
+  pub fits : area h w ≤ maxArea
+  pub ownersLong : length owners ≡ maxArea
+  pub linksLong : length next ≡ maxArea
+  pub notesLong : length notes ≡ maxArea
+  pub queueLong : length queue ≡ maxArea
+  pub numbers : table ≡ tabulate entry 0 hashEntries
+  pub starting : RowStarts h w starts
+  pub hashed : sum ≡ hashOf h w (ownerIn notes)
+  pub standing : (p : ℕ) → ownerIn owners p < slots → p < area h w
+  pub ours : (p : ℕ) → eqb (ownerIn notes p) s ≡ eqb (ownerIn owners p) s
+  pub vacant : (p : ℕ) → eqb (ownerIn notes p) slots ≡ eqb (ownerIn owners p) slots
