@@ -1,25 +1,25 @@
 -- Laws of the flood of one slot: what stands in the queue was reached from the origin, what was looked at has all its kin painted, and
 -- so at the end exactly what is joined with the origin is painted.
 use mathlib.Core.Path.{_≡_, refl, sym, ap, ap₂, _∙_, subst}
-use mathlib.Core.Bool.{Bool, true, false, cond, _&&_, _||_, and-false, or-false}
-use mathlib.Core.List.{List, [], _∷_, _++_, List·Memᴰ}
-use mathlib.Core.Logic.{_↔_, _≢_, _⊎_, inl, inr, ⊎-elim}
+use mathlib.Core.Bool.{Bool, true, false, cond, _&&_, _||_, and-false, or-false, and-or-distrib-left}
+use mathlib.Core.List.{List, [], _∷_, List·Memᴰ}
+use mathlib.Core.Logic.{_≢_, _⊎_, inl, inr, ⊎-elim}
 use Prim.Native.Nat.{ℕ, _+_, _≤_, _<_}
 use native.Mathlib.Nat.{not-suc-le-zero, lt-of-lt-of-le}
 use native.Mathlib.Omega.{arith}
 use lib.Dec.{eqb}
 use lib.ListN.{getD}
 use borrow.Author.Count.{below-more}
-use borrow.Author.Tests.{eqb-true, eqb-false, eq-eqb, ne-eqb}
-use Rattle.rules.specs.Sizes.{maxArea, slots}
+use borrow.Author.Tests.{eqb-true, eq-eqb, ne-eqb}
+use Rattle.rules.specs.Sizes.{slots}
 use Rattle.rules.specs.Lists.{any, count, below, has}
 use Rattle.rules.specs.Points.{area, neighbours}
 use Rattle.rules.specs.Reach.{Walk, here, step}
-use Rattle.rules.specs.Laws.Lists.{and-left, and-right, and-both, not-both, not-yes, decided, equal-or-not, below-or-not, same-answer}
+use Rattle.rules.specs.Laws.Lists.{and-left, and-right, and-both, not-yes, decided, equal-or-not, below-or-not, same-answer}
 use Rattle.rules.specs.Laws.Lists.{any-yes, any-some, mem-below, below-mem, mem-has, has-mem}
 use Rattle.rules.specs.Laws.Counting.{count-same, count-or}
 use Rattle.rules.specs.Laws.Points.{neighbours-sym}
-use Rattle.rules.specs.Laws.Reach.{walk-first, walk-last, walk-on}
+use Rattle.rules.specs.Laws.Reach.{walk-on}
 use Rattle.sets.specs.Liberties.{setOf}
 use Rattle.sets.specs.Laws.Liberties.{setOf-ext}
 use Rattle.board.specs.Judge.{ownerIn, found, shore}
@@ -137,7 +137,7 @@ module _ (h w s c o : ℕ) (before : List ℕ) where
         look .shored _ (is .shored)
         ∙ setOf-ext _ _ (λ q m.
         ap (λ (t : Bool). (eqb (ownerIn before q) slots && beside h w queue head q) || (t && has (neighbours h w point) q)) (empty-kept q)
-        ∙ gather (eqb (ownerIn before q) slots) (beside h w queue head q) (has (neighbours h w point) q)
+        ∙ sym (and-or-distrib-left (eqb (ownerIn before q) slots) (beside h w queue head q) (has (neighbours h w point) q))
         ∙ ap (λ (t : Bool). eqb (ownerIn before q) slots && t) (sym (one-more q)));
   }
     where
@@ -170,10 +170,6 @@ module _ (h w s c o : ℕ) (before : List ℕ) where
           ∙ sym (ne-eqb (ownerIn before q) slots (λ v. omega (arith, look .ready .low))))
           (λ n. ap (λ (x : ℕ). eqb x slots) (is .others q n))
           (equal-or-not (ownerIn before q) s)
-
-      gather : (e a b : Bool) → ((e && a) || (e && b)) ≡ (e && (a || b))
-      gather true a b = refl
-      gather false a b = refl
 
       one-more : (q : ℕ) → beside h w queue′ (head + 1) q ≡ (beside h w queue head q || has (neighbours h w point) q)
       one-more q =

@@ -1,7 +1,7 @@
 -- Laws of what is found from a point: it says that a walk by the slot's points leads there.
 use mathlib.Core.Path.{_≡_, refl, ap, subst, fun-ext}
 use mathlib.Core.Bool.{Bool, true, false, _&&_}
-use mathlib.Core.List.{List, [], _∷_, List·Memᴰ, List·Memᴰ·head as head, List·Memᴰ·eq-of-singleton as eq-of-singleton}
+use mathlib.Core.List.{[], _∷_, List·Memᴰ, List·Memᴰ·head as head, List·Memᴰ·eq-of-singleton as eq-of-singleton}
 use mathlib.Core.Logic.{_↔_, _≢_}
 use Prim.Native.Nat.{ℕ, _<_}
 use lib.Dec.{eqb}

@@ -1,7 +1,7 @@
 -- The judge says yes exactly on true boards. Both ways what is found from the origin of a slot is all that the slot owns, so what the
 -- tests say of the points found is what a true board says of the slot's.
 use mathlib.Core.Path.{_≡_, refl, sym, ap, _∙_, subst, fun-ext}
-use mathlib.Core.Bool.{Bool, true, false, cond, _&&_}
+use mathlib.Core.Bool.{Bool, true, cond, _&&_}
 use mathlib.Core.List.{List, List·Memᴰ}
 use mathlib.Core.Logic.{_↔_, _≢_, _⊎_, inl, inr, ⊎-elim}
 use Prim.Native.Nat.{ℕ, suc, _+_, _-_, _≤_, _<_}
@@ -13,10 +13,8 @@ use Rattle.rules.specs.Sizes.{maxArea, slots}
 use Rattle.rules.specs.Lists.{any, count, below, Distinct}
 use Rattle.rules.specs.Points.{area, column, neighbours}
 use Rattle.rules.specs.Colours.{empty}
-use Rattle.rules.specs.Reach.{Walk}
 use Rattle.rules.specs.Hash.{hash}
 use Rattle.rules.specs.Laws.Lists.{and-left, and-right, and-both, not-both, decided, equal-or-not, below-or-not, same-answer, getD-within}
-use Rattle.rules.specs.Laws.Counting.{count-same}
 use Rattle.rules.specs.Laws.Places.{tabulate-ext}
 use Rattle.rules.specs.Laws.Points.{neighbours-on, neighbours-from}
 use Rattle.chains.specs.Group.{used, freeChain}

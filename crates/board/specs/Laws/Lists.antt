@@ -1,16 +1,13 @@
--- Laws of all, pick and has on a list taken one element after another, as a loop goes through it.
+-- Laws of all, any and has on a list taken one element after another, as a loop goes through it.
 use mathlib.Core.Path.{_≡_, refl, sym, ap, ap₂, _∙_}
-use mathlib.Core.Bool.{Bool, true, false, cond, _&&_, _||_, and-true, and-assoc}
-use mathlib.Core.List.{List, [], _∷_, _++_, append-nil, List·Memᴰ, List·Memᴰ·head as head, List·Memᴰ·tail as tail}
-use mathlib.Core.Logic.{⊎-elim}
-use Prim.Native.Nat.{ℕ, zero, suc, _+_, _≤_, _<_}
+use mathlib.Core.Bool.{Bool, true, false, _&&_, _||_, and-true, and-assoc, or-false, or-assoc}
+use mathlib.Core.List.{List, [], _∷_, _++_, List·Memᴰ, List·Memᴰ·head as head, List·Memᴰ·tail as tail}
+use Prim.Native.Nat.{ℕ, zero, suc, _+_, _<_}
 use native.Mathlib.Nat.{not-suc-le-zero, le-of-suc-le-suc, zero-add}
-use native.Mathlib.Omega.{arith}
 use native.Mathlib.Numerals.{add-one}
 use lib.Dec.{eqb}
-use lib.ListN.{length, getD, take}
-use lib.Seq.{take-suc, take-all}
-use Rattle.rules.specs.Lists.{all, any, pick, has, below, tabulate}
+use lib.ListN.{length, getD}
+use Rattle.rules.specs.Lists.{all, any, has, below, tabulate}
 use Rattle.rules.specs.Laws.Lists.{all-each, all-yes, not-yes, not-both, mem-below, below-mem}
 use Rattle.rules.specs.Laws.Places.{tabulate-suc}
 
@@ -21,52 +18,26 @@ module _ {A : Type 0} where
   mem-getD (x ∷ l) (suc k) d h = tail (mem-getD l k d (le-of-suc-le-suc h))
 
   module _ (f : A → Bool) where
-    pub all-fails : {x : A} {xs : List A} → List·Memᴰ x xs → f x ≡ false → all f xs ≡ false
-    all-fails m e = not-yes (λ t. not-both (all-each f t m) e)
-
-    pub all-at : (l : List A) (d : A) → ((k : ℕ) → k < length l → f (getD l k d) ≡ true) → all f l ≡ true
-    all-at [] d h = refl
-    all-at (x ∷ l) d h = rw (h 0 (omega arith)) (all-at l d (λ k l. h (suc k) (omega arith)))
-
-    pub all-fails-at : (l : List A) (d : A) (k : ℕ) → k < length l → f (getD l k d) ≡ false → all f l ≡ false
-    all-fails-at l d k h e = all-fails (mem-getD l k d h) e
-
-    pub pick-append : (xs ys : List A) → pick f (xs ++ ys) ≡ pick f xs ++ pick f ys
-    pick-append [] ys = refl
-    pick-append (x ∷ xs) ys = ap (λ (l : List A). cond (f x) (x ∷ l) l) (pick-append xs ys) ∙ go (f x)
-      where
-        go : (t : Bool) → cond t (x ∷ (pick f xs ++ pick f ys)) (pick f xs ++ pick f ys) ≡ cond t (x ∷ pick f xs) (pick f xs) ++ pick f ys
-        go true = refl
-        go false = refl
+    all-append : (xs ys : List A) → all f (xs ++ ys) ≡ (all f xs && all f ys)
+    all-append [] ys = refl
+    all-append (x ∷ xs) ys = ap (λ (t : Bool). f x && t) (all-append xs ys) ∙ sym (and-assoc (f x) (all f xs) (all f ys))
 
     pub any-append : (xs ys : List A) → any f (xs ++ ys) ≡ (any f xs || any f ys)
     any-append [] ys = refl
-    any-append (x ∷ xs) ys = ap (λ (t : Bool). f x || t) (any-append xs ys) ∙ go (f x)
-      where
-        go : (t : Bool) → (t || (any f xs || any f ys)) ≡ ((t || any f xs) || any f ys)
-        go true = refl
-        go false = refl
+    any-append (x ∷ xs) ys = ap (λ (t : Bool). f x || t) (any-append xs ys) ∙ sym (or-assoc (f x) (any f xs) (any f ys))
 
-pub all-same : {A : Type 0} (f g : A → Bool) (xs : List A) → ((x : A) → List·Memᴰ x xs → f x ≡ g x) → all f xs ≡ all g xs
-all-same f g [] h = refl
-all-same f g (x ∷ xs) h = ap₂ _&&_ (h x (head refl)) (all-same f g xs (λ y m. h y (tail m)))
-
-pub all-append : {A : Type 0} (f : A → Bool) (xs ys : List A) → all f (xs ++ ys) ≡ (all f xs && all f ys)
-all-append f [] ys = refl
-all-append f (x ∷ xs) ys = ap (λ (t : Bool). f x && t) (all-append f xs ys) ∙ sym (and-assoc (f x) (all f xs) (all f ys))
-
-pub any-same : {A : Type 0} (f g : A → Bool) (xs : List A) → ((x : A) → List·Memᴰ x xs → f x ≡ g x) → any f xs ≡ any g xs
-any-same f g [] h = refl
-any-same f g (x ∷ xs) h = ap₂ _||_ (h x (head refl)) (any-same f g xs (λ y m. h y (tail m)))
+  pub any-same : (f g : A → Bool) (xs : List A) → ((x : A) → List·Memᴰ x xs → f x ≡ g x) → any f xs ≡ any g xs
+  any-same f g [] h = refl
+  any-same f g (x ∷ xs) h = ap₂ _||_ (h x (head refl)) (any-same f g xs (λ y m. h y (tail m)))
 
 module _ (f : ℕ → Bool) (n : ℕ) where
   pub all-below : ((k : ℕ) → k < n → f k ≡ true) → all f (below n) ≡ true
   all-below h = all-yes f (below n) (λ x m. h x (below-mem n x m))
 
   pub all-fails-below : (k : ℕ) → k < n → f k ≡ false → all f (below n) ≡ false
-  all-fails-below k h e = all-fails f (mem-below n k h) e
+  all-fails-below k h e = not-yes (λ t. not-both (all-each f t (mem-below n k h)) e)
 
--- a test after others fails with any of them
+-- a test that fails among others
 pub and-fails : {a : Bool} (x : Bool) → a ≡ false → (a && x) ≡ false
 and-fails x e = rw e
 
@@ -83,21 +54,10 @@ below-next n = rw add-one (tabulate-suc (λ i. i) 0 n ∙ ap (λ (k : ℕ). tabu
 pub all-below-next : (f : ℕ → Bool) (n : ℕ) → all f (below (n + 1)) ≡ (all f (below n) && f n)
 all-below-next f n = ap (all f) (below-next n) ∙ all-append f (below n) (n ∷ []) ∙ ap (λ (t : Bool). all f (below n) && t) (and-true (f n))
 
-pub take-next : {A : Type 0} (l : List A) (n : ℕ) (d : A) → n < length l → take (n + 1) l ≡ take n l ++ (getD l n d ∷ [])
-take-next l n d h = rw add-one (take-suc l n d h)
-
--- what the test says of one element more decides whether it is picked
-pub pick-next : {A : Type 0} (f : A → Bool) (xs : List A) {x y : A} {t : Bool} → y ≡ x → t ≡ f x → pick f xs ++ cond t (y ∷ []) [] ≡ pick f (xs ++ (x ∷ []))
-pick-next {A} f xs {x} e d = ap₂ (λ (z : A) (t : Bool). pick f xs ++ cond t (z ∷ []) []) e d ∙ sym (pick-append f xs (x ∷ []))
-
 pub has-append : (xs ys : List ℕ) (q : ℕ) → has (xs ++ ys) q ≡ (has xs q || has ys q)
 unfolding has
 has-append xs ys q = any-append (eqb q) xs ys
 
 pub has-one : (p q : ℕ) → has (p ∷ []) q ≡ eqb q p
 unfolding has
-has-one p q = go (eqb q p)
-  where
-    go : (t : Bool) → (t || false) ≡ t
-    go true = refl
-    go false = refl
+has-one p q = or-false (eqb q p)

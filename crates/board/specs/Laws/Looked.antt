@@ -1,6 +1,6 @@
 -- Laws of a look at some points: at none, at one that the slot does not want or does, and looks that follow each other.
-use mathlib.Core.Path.{_≡_, refl, sym, ap, ap₂, _∙_, subst}
-use mathlib.Core.Bool.{Bool, true, false, cond, _&&_, _||_, and-false, or-false, or-assoc, or-true}
+use mathlib.Core.Path.{_≡_, refl, sym, ap, _∙_, subst}
+use mathlib.Core.Bool.{Bool, true, false, cond, _&&_, _||_, and-false, or-false, or-true}
 use mathlib.Core.List.{List, [], _∷_, _++_}
 use mathlib.Core.Logic.{_≢_, ⊎-elim}
 use mathlib.Core.Option.{Option, none, some}
@@ -11,14 +11,14 @@ use lib.Bits.{bitXor}
 use lib.Dec.{eqb, ltb}
 use lib.ListN.{length, getD, set, length-set}
 use lib.Seq.{ext-getD, getD-set-same, getD-set-other}
-use borrow.Author.Tests.{eqb-true, eqb-false, eq-eqb, ne-eqb, lt-ltb}
+use borrow.Author.Tests.{eqb-true, eq-eqb, ne-eqb, lt-ltb}
 use Rattle.rules.specs.Sizes.{maxArea, slots}
 use Rattle.rules.specs.Lists.{count, below, has, tabulate, present}
 use Rattle.rules.specs.Points.{area, back, stay, forth, towards, sides, neighbours}
 use Rattle.rules.specs.Colours.{empty, at}
 use Rattle.rules.specs.Hash.{hash, stoneHash}
 use Rattle.rules.specs.Laws.Lists.{and-left, and-right, and-both, or-cases, or-left, or-right, not-both, decided, equal-or-not, below-or-not, cond-or}
-use Rattle.rules.specs.Laws.Lists.{length-tabulate, getD-tabulate-zero, mem-below, count-positive}
+use Rattle.rules.specs.Laws.Lists.{length-tabulate, getD-tabulate-zero, mem-below}
 use Rattle.rules.specs.Laws.Counting.{count-same, count-or, count-equal, below-distinct}
 use Rattle.rules.specs.Laws.Hash.{hash-put}
 use Rattle.sets.specs.Liberties.{setOf, LibertySet, added, has as libertyHas}

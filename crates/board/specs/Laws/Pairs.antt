@@ -1,6 +1,6 @@
 -- Points side by side in pairs: one of them lies left of the other or above it.
 use mathlib.Core.Path.{_≡_, sym, ap, _∙_}
-use mathlib.Core.List.{List, List·Memᴰ, List·Memᴰ·head as head, List·Memᴰ·tail as tail}
+use mathlib.Core.List.{List·Memᴰ, List·Memᴰ·head as head, List·Memᴰ·tail as tail}
 use mathlib.Core.Logic.{_≢_, _⊎_, inl, inr, ⊎-elim}
 use Prim.Native.Nat.{ℕ, _+_, _-_, _*_, _≤_, _<_}
 use native.Mathlib.Numerals.{add-one}

@@ -1,7 +1,7 @@
 -- Laws of a ring of links: a walk that is back at its first point after n steps, and not before, meets n points and none twice; and
 -- the other way round. A ring of as many points as its slot owns is all that the slot owns.
 use mathlib.Core.Path.{_≡_, sym, ap, _∙_}
-use mathlib.Core.List.{List, List·Memᴰ, Memᴰ·cast}
+use mathlib.Core.List.{List, List·Memᴰ}
 use mathlib.Core.Logic.{_≢_}
 use Prim.Native.Nat.{ℕ, _+_, _-_, _<_}
 use native.Mathlib.Nat.{zero-add}
@@ -14,7 +14,7 @@ use Rattle.rules.specs.Laws.Lists.{mem-pick, mem-below}
 use Rattle.rules.specs.Laws.Counting.{length-pick}
 use Rattle.chains.specs.Walk.{stepped, walked}
 use Rattle.chains.specs.Laws.Walk.{stepped-add, length-walked}
-use Rattle.rules.specs.Laws.Lists.{tabulate-mem, mem-tabulate}
+use Rattle.rules.specs.Laws.Lists.{tabulate-mem}
 use Rattle.rules.specs.Laws.Distinct.{tabulate-distinct, distinct-tabulate, distinct-fills}
 
 module _ (next : List ℕ) (o n : ℕ) where
@@ -22,10 +22,6 @@ module _ (next : List ℕ) (o n : ℕ) where
   pub walked-step : {x : ℕ} → List·Memᴰ x (walked next o n) → (k : ℕ) × (k < n) × (x ≡ stepped next o k)
   unfolding walked
   walked-step m = let (k, l, e) = tabulate-mem (stepped next o) 0 n m in (k, l, e ∙ ap (stepped next o) (zero-add k))
-
-  pub step-walked : (k : ℕ) → k < n → List·Memᴰ (stepped next o k) (walked next o n)
-  unfolding walked
-  step-walked k l = Memᴰ·cast (ap (stepped next o) (sym (zero-add k))) (mem-tabulate (stepped next o) 0 n k l)
 
   -- were two of its points one, both walks on to the end would be one, and back too early
   pub ring-distinct : stepped next o n ≡ o → ((k : ℕ) → 0 < k → k < n → stepped next o k ≢ o) → Distinct (walked next o n)

@@ -1,18 +1,18 @@
 -- What each of the judge's tests says, where it says yes. A test made with &&, || and not says what its parts say.
-use mathlib.Core.Path.{_≡_, sym, _∙_, subst}
+use mathlib.Core.Path.{_≡_, subst}
 use mathlib.Core.Bool.{Bool, true, false, not, _&&_, _||_}
-use mathlib.Core.List.{List, List·Memᴰ}
+use mathlib.Core.List.{List}
 use mathlib.Core.Logic.{_↔_, _≢_, _⊎_, inl, inr, ⊎-elim, ⊎-map}
 use Prim.Native.Nat.{ℕ, _-_, _≤_, _<_}
 use native.Mathlib.Omega.{arith}
 use lib.Dec.{eqb, ltb, leb}
-use borrow.Author.Tests.{eqb-true, eq-eqb, ltb-true, ltb-false, lt-ltb, le-ltb, leb-true, le-leb, not-true}
+use borrow.Author.Tests.{eqb-true, eq-eqb, ltb-true, ltb-false, lt-ltb, leb-true, le-leb, not-true}
 use Rattle.rules.specs.Sizes.{maxSide, maxArea, slots}
 use Rattle.rules.specs.Lists.{all, count, below, same}
 use Rattle.rules.specs.Points.{area, column}
 use Rattle.rules.specs.Colours.{black, white}
 use Rattle.rules.specs.Game.{Player}
-use Rattle.rules.specs.Laws.Lists.{and-left, and-right, and-both, or-cases, or-left, or-right, not-yes, not-both, decided, equal-or-not, below-or-not}
+use Rattle.rules.specs.Laws.Lists.{and-left, and-right, and-both, or-cases, or-left, or-right, not-yes, not-both, decided, equal-or-not}
 use Rattle.rules.specs.Laws.Lists.{all-each, all-yes, mem-below, below-mem, same-equal, same-self}
 use Rattle.chains.specs.declared.group.Chain.{Chain}
 use Rattle.chains.specs.Group.{used}

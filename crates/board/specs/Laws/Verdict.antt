@@ -1,6 +1,6 @@
 -- Laws of the whole judgement: what the notes say after some slots, that each test that fails is a no, and that when all but the hash are
 -- passed the hash decides.
-use mathlib.Core.Path.{_≡_, refl, sym, ap, _∙_, subst, fun-ext}
+use mathlib.Core.Path.{_≡_, sym, ap, _∙_, fun-ext}
 use mathlib.Core.Bool.{Bool, true, false, cond, not, _&&_}
 use mathlib.Core.List.{List}
 use mathlib.Core.Logic.{_≢_, ⊎-elim}
@@ -8,16 +8,16 @@ use Prim.Native.Nat.{ℕ, _+_, _-_, _≤_, _<_}
 use native.Mathlib.Nat.{mul-le-mul, mul-le-mul-right, mul-pos, one-mul}
 use native.Mathlib.Omega.{arith}
 use lib.Dec.{eqb, ltb, leb}
-use lib.ListN.{length, getD, replicate, length-replicate}
+use lib.ListN.{length, replicate, length-replicate}
 use lib.Seq.{ext-getD}
 use borrow.Author.Count.{below-none, below-more}
-use borrow.Author.Tests.{ltb-true, ltb-false, lt-ltb, le-ltb, not-true, eq-eqb, ne-eqb, eqb-true}
+use borrow.Author.Tests.{ltb-true, ltb-false, lt-ltb, le-ltb, not-true, ne-eqb}
 use Rattle.rules.specs.Sizes.{maxSide, maxArea, slots, hashEntries}
 use Rattle.rules.specs.Lists.{all, below, tabulate}
 use Rattle.rules.specs.Points.{area}
 use Rattle.rules.specs.Colours.{empty}
 use Rattle.rules.specs.Hash.{entry, hash}
-use Rattle.rules.specs.Laws.Lists.{and-left, and-right, all-each, mem-below, decided, equal-or-not, not-both, getD-within, length-tabulate, getD-tabulate-zero, getD-replicate-same}
+use Rattle.rules.specs.Laws.Lists.{and-left, and-right, all-each, mem-below, decided, equal-or-not, getD-within, length-tabulate, getD-tabulate-zero, getD-replicate-same}
 use Rattle.rules.specs.Laws.Colours.{player-stone}
 use Rattle.chains.specs.declared.group.Chain.{Chain}
 use Rattle.chains.specs.Group.{used}
@@ -29,7 +29,7 @@ use Rattle.board.specs.Flood.{RowStarts, Lent, Passed}
 use Rattle.board.specs.Laws.Lists.{all-below, all-fails-below, and-fails, then-fails}
 use Rattle.board.specs.Laws.NewBoard.{hash-none}
 use Rattle.board.specs.Laws.Found.{found-not}
-use Rattle.board.specs.Laws.Tests.{Placed, placed-says, slot-says}
+use Rattle.board.specs.Laws.Tests.{placed-says, slot-says}
 
 -- ---- Sizes
 

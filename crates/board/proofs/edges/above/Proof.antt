@@ -1,6 +1,5 @@
 -- `above` meets its contract: a row above there is where the point is not in the first.
 use mathlib.Core.Path.{sym}
-use native.Mathlib.Omega.{arith}
 use Rattle.board.specs.Laws.Edges.{above-some, above-none}
 use Rattle.board.proofs.edges.above.Statement.{statement}
 use Rattle.board.proofs.edges.above.Tie as tie

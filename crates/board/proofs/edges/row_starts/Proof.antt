@@ -1,6 +1,5 @@
 -- `row_starts` meets its contract: the points before the one that is reached are told, and it begins a row. The measure is what is left.
-use mathlib.Core.Path.{_≡_, sym, _∙_}
-use Prim.Native.Nat.{ℕ, _+_, _-_}
+use Prim.Native.Nat.{_+_, _-_}
 use native.Mathlib.Omega.{arith}
 use Rattle.board.specs.Laws.Edges.{Begun, begun-none, begun-next, begun-all}
 use borrow.Author.Needs.{needs}

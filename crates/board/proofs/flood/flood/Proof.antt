@@ -1,7 +1,7 @@
 -- `flood` meets its contract: whatever the notes were before the origin was pushed, the flood goes on from there. The measure is what is
 -- left of the points, since none is twice in the queue.
-use mathlib.Core.Path.{_≡_, sym, _∙_, subst}
-use mathlib.Core.List.{List, _∷_, []}
+use mathlib.Core.Path.{sym, subst}
+use mathlib.Core.List.{List}
 use Prim.Native.Nat.{ℕ, _<_, _-_}
 use native.Mathlib.Omega.{arith}
 use Rattle.rules.specs.Sizes.{maxArea}

@@ -1,7 +1,6 @@
 -- `look` meets its contract: off the board, or at a point that is empty, another's or the slot's.
 use mathlib.Core.Path.{_≡_, sym, ap, _∙_, subst}
-use mathlib.Core.Logic.{_≢_}
-use Prim.Native.Nat.{ℕ, _<_}
+use Prim.Native.Nat.{_<_}
 use native.Mathlib.Omega.{arith}
 use Rattle.rules.specs.Sizes.{maxArea, slots}
 use Rattle.rules.specs.Points.{area}

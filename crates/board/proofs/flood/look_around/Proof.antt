@@ -1,10 +1,9 @@
 -- `look_around` meets its contract: four looks, one after another, at what the four sides are.
-use mathlib.Core.Path.{_≡_, sym, subst}
-use Rattle.rules.specs.Points.{area, Shift, back, stay, forth, towards}
-use Rattle.points.specs.Place.{placeOf, Within}
+use mathlib.Core.Path.{sym, subst}
+use Rattle.rules.specs.Points.{area, back, stay, forth}
+use Rattle.points.specs.Place.{Within}
 use Rattle.board.specs.Laws.Edges.{towards-within}
 use Rattle.board.specs.Laws.Looked.{looked-set, looked-around}
-use borrow.Author.Needs.{needs}
 use Rattle.board.proofs.flood.look_around.Statement.{statement}
 use Rattle.board.proofs.flood.look_around.Tie as tie
 

@@ -1,7 +1,6 @@
 -- `push` meets its contract: two stores, and the stone's number from the table.
 use mathlib.Core.Path.{refl, ap, _∙_}
 use mathlib.Core.Bool.{Bool, cond}
-use Prim.Native.Nat.{ℕ}
 use lib.Bits.{bitXor}
 use borrow.Author.Tests.{lt-ltb}
 use Rattle.rules.specs.Hash.{stoneHash}

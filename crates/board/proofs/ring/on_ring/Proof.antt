@@ -1,7 +1,6 @@
 -- `on_ring` meets its contract: the code and the definition make the same tests, on the same owner.
 use mathlib.Core.Path.{sym}
 use borrow.Author.Tests.{eq-eqb, ne-eqb}
-use Rattle.board.specs.Judge.{ownerIn}
 use borrow.Author.Needs.{needs}
 use Rattle.board.proofs.ring.on_ring.Statement.{statement}
 use Rattle.board.proofs.ring.on_ring.Tie as tie

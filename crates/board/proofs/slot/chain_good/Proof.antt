@@ -1,12 +1,11 @@
 -- `chain_good` meets its contract: each way out has found one test to fail, or the last to decide, and what the flood left is what it
 -- finds from the chain's origin.
 use mathlib.Core.Path.{_≡_, refl, sym, ap, _∙_}
-use mathlib.Core.Bool.{true, false, _&&_}
-use Prim.Native.Nat.{ℕ, _<_}
+use mathlib.Core.Bool.{true, _&&_}
+use Prim.Native.Nat.{_<_}
 use native.Mathlib.Omega.{arith}
 use lib.Dec.{eqb}
 use borrow.Author.Tests.{not-true, not-false, eq-eqb, ne-eqb}
-use Rattle.rules.specs.Game.{Player}
 use Rattle.rules.specs.Laws.Lists.{not-both}
 use Rattle.rules.specs.Laws.Colours.{player-stone}
 use Rattle.board.specs.Judge.{ownerIn, player, counted, ring, libertiesGood, chainGood}

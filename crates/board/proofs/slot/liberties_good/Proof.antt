@@ -2,7 +2,7 @@
 -- what is left.
 use mathlib.Core.Path.{_≡_, ap₂}
 use mathlib.Core.Bool.{_&&_}
-use Prim.Native.Nat.{ℕ, _≤_, _-_}
+use Prim.Native.Nat.{_≤_, _-_}
 use native.Mathlib.Omega.{arith}
 use lib.ListN.{length, getD}
 use mir.Syntax.{w8}

@@ -1,6 +1,5 @@
 -- `slot_good` meets its contract: a free slot changes nothing, and any other is judged as a chain.
-use mathlib.Core.Path.{_≡_, refl, sym, ap, _∙_}
-use mathlib.Core.Bool.{Bool, true, not, cond}
+use mathlib.Core.Path.{sym, _∙_}
 use borrow.Author.Tests.{eq-eqb, ne-eqb}
 use Rattle.chains.specs.Group.{used}
 use Rattle.board.specs.Judge.{slotGood}
