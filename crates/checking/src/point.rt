@@ -33,10 +33,9 @@ fn forbidden_answer(game: Game, history: &[u8], flags: u8, point: usize) -> u8
     requires { ⌜ Asking game (length (now history)) point ⌝ }
     ensures { λ r. ⌜ r ≡ number (forbiddenAnswer (viewOf game) (now (history .entry)) flags point) ⌝ }
 {
-    let board = game.board;
-    let height = board.height;
-    let width = board.width;
-    let seen = seen_of(board);
+    let height = game.board.height;
+    let width = game.board.width;
+    let seen = seen_of(game.board);
     let colours = seen.colours;
     let liberties = seen.liberties;
     let stones = seen.stones;

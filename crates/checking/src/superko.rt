@@ -48,9 +48,7 @@ pub fn repeats(game: Game, history: &[u8], point: usize) -> bool
     requires { ⌜ Repeating game (length (now history)) point ⌝ }
     ensures { λ r. ⌜ r ≡ recorded (now (history .entry)) (game .records) (resulting (viewOf game) point) ⌝ }
 {
-    let board = game.board;
-    let laid = lay(board, point, player_of(game.turn), game.flags);
-    let after = laid.board;
-    let bytes = record_of(after);
+    let laid = lay(game.board, point, player_of(game.turn), game.flags);
+    let bytes = record_of(laid.board);
     is_recorded(history, game.records, &bytes)
 }

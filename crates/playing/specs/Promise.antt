@@ -6,7 +6,7 @@ use mathlib.Core.Logic.{_≢_}
 use Prim.Native.Nat.{ℕ}
 use lib.ListN.{length}
 use Rattle.rules.specs.Answers.{number}
-use Rattle.rules.specs.Calls.{Result}
+use Rattle.rules.specs.Calls.{Result, stoneAnswer}
 use Rattle.game.specs.declared.state.Game.{Game}
 use Rattle.game.specs.View.{viewOf, TrueState, RoomIn}
 
@@ -20,3 +20,9 @@ pub record CalledTrue (call : Result) (g : Game) (bytes : List ℕ) (answer : �
   pub room : RoomIn g′ (length bytes)
   -- refused: the very same state and bytes
   pub refused : answer ≢ 0 → (g′ ≡ g) × (bytes′ ≡ bytes)
+
+-- what is known of a stone once the tests have answered it
+pub record StoneTold (g : Game) (bytes : List ℕ) (r c answer : ℕ) : Type 0 where
+  pub state : TrueState g
+  pub room : RoomIn g (length bytes)
+  pub told : answer ≡ number (stoneAnswer (viewOf g) bytes r c)

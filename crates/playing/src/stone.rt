@@ -19,48 +19,52 @@ use points::answers::MOVE_LIMIT;
 use points::coord::two_to_1dim;
 use points::sizes::MAX_STONES;
 use points::stones::other;
+ghost use mathlib.Core.Path.{_≡_};
 ghost use lib.ListN.{length};
+ghost use Rattle.rules.specs.Answers.{number};
 ghost use Rattle.rules.specs.Calls as rules;
 ghost use Rattle.game.specs.View.{viewOf, TrueState, RoomIn};
 ghost use Rattle.game.specs.Promise.{Called};
-ghost use Rattle.playing.specs.Promise.{CalledTrue};
+ghost use Rattle.playing.specs.Promise.{StoneTold, CalledTrue};
 
-// A stone of the player to move, in a state that is true already and has room for its records.
-pub fn play(game: Game, history: &mut [u8], row: u8, column: u8) -> Answered
+// The answer to a stone, in a state that is true already and has room for its records.
+fn stone_answer(game: Game, history: &[u8], row: u8, column: u8) -> u8
     requires { ⌜ TrueState game × RoomIn game (length (now history)) ⌝ }
-    ensures { λ r. ⌜ CalledTrue (rules.stone (viewOf game) (now (history .entry)) row column) game (now (history .entry)) (r .answer) (r .game) (now (history .exit)) ⌝ }
+    ensures { λ r. ⌜ r ≡ number (rules.stoneAnswer (viewOf game) (now (history .entry)) row column) ⌝ }
 {
     if game.passes == 2 {
-        return Answered {
-            answer: GAME_PAUSED,
-            game: game,
-        };
+        return GAME_PAUSED;
     }
-    let answer = point_answer(game, history, game.flags, row, column);
+    let at_point = point_answer(game, history, game.flags, row, column);
+    if at_point != ACCEPTED {
+        return at_point;
+    }
+    if game.accepted == MAX_STONES {
+        return MOVE_LIMIT;
+    }
+    let bytes = record_of(game.board);
+    if no_room(history, game.records, &bytes) {
+        return HISTORY_FULL;
+    }
+    ACCEPTED
+}
+
+// What a stone leaves, by its answer. The tests are done when this is called: two boards laid at once would need a deep stack.
+fn put_down(game: Game, history: &mut [u8], row: u8, column: u8, answer: u8) -> Answered
+    requires { ⌜ StoneTold game (now history) row column answer ⌝ }
+    ensures { λ r. ⌜ CalledTrue (rules.stone (viewOf game) (now (history .entry)) row column) game (now (history .entry)) (r .answer) (r .game) (now (history .exit)) ⌝ }
+{
     if answer != ACCEPTED {
         return Answered {
             answer: answer,
             game: game,
         };
     }
-    if game.accepted == MAX_STONES {
-        return Answered {
-            answer: MOVE_LIMIT,
-            game: game,
-        };
-    }
-    let board = game.board;
-    let bytes = record_of(board);
-    if no_room(history, game.records, &bytes) {
-        return Answered {
-            answer: HISTORY_FULL,
-            game: game,
-        };
-    }
+    let bytes = record_of(game.board);
     let records = note_board(history, game.records, &bytes);
     let mover = player_of(game.turn);
-    let point = two_to_1dim(board.width, row, column);
-    let laid = lay(board, point, mover, game.flags);
+    let point = two_to_1dim(game.board.width, row, column);
+    let laid = lay(game.board, point, mover, game.flags);
     let next = other(mover);
     let place = laid.ko;
     let ko = ko_number(place);
@@ -89,7 +93,17 @@ pub fn play(game: Game, history: &mut [u8], row: u8, column: u8) -> Answered
     }
 }
 
-// A stone of the player to move, whatever the state and the bytes are.
+// A stone of the player to move, in a state that is true already and has room for its records.
+pub fn play(game: Game, history: &mut [u8], row: u8, column: u8) -> Answered
+    requires { ⌜ TrueState game × RoomIn game (length (now history)) ⌝ }
+    ensures { λ r. ⌜ CalledTrue (rules.stone (viewOf game) (now (history .entry)) row column) game (now (history .entry)) (r .answer) (r .game) (now (history .exit)) ⌝ }
+{
+    let answer = stone_answer(game, history, row, column);
+    put_down(game, history, row, column, answer)
+}
+
+// A stone of the player to move, whatever the state and the bytes are. The two calls of `play` stand here again: a function that is
+// called from one place only is compiled into its caller, and their frames would be one.
 pub fn stone(game: Game, history: &mut [u8], row: u8, column: u8) -> Answered
     ensures { λ r. ⌜ Called (TrueState game × RoomIn game (length (now (history .entry)))) (rules.stone (viewOf game) (now (history .entry)) row column) game (now (history .entry)) (r .answer) (r .game) (now (history .exit)) ⌝ }
 {
@@ -99,5 +113,6 @@ pub fn stone(game: Game, history: &mut [u8], row: u8, column: u8) -> Answered
             game: game,
         };
     }
-    play(game, history, row, column)
+    let answer = stone_answer(game, history, row, column);
+    put_down(game, history, row, column, answer)
 }

@@ -9,7 +9,7 @@ use Prim.Native.Nat.{ℕ, _+_, _≤_, _<_}
 use native.Mathlib.Omega.{arith}
 use lib.Dec.{leb}
 use lib.ListN.{length}
-use borrow.Author.Tests.{eq-eqb, ne-eqb, le-leb, lt-leb}
+use borrow.Author.Tests.{eq-eqb, ne-eqb, le-leb, lt-leb, leb-false}
 use Rattle.rules.specs.Sizes.{maxStones}
 use Rattle.rules.specs.Points.{index}
 use Rattle.rules.specs.Colours.{other}
@@ -17,9 +17,10 @@ use Rattle.rules.specs.Move.{coloured, removed}
 use Rattle.rules.specs.Records.{full, capacity, bytesAfter}
 use Rattle.rules.specs.Answers.{Answer, number, accepts, refuse, _then_, Accepted, GamePaused, MoveLimit, HistoryFull}
 use Rattle.rules.specs.Game as rules
-use Rattle.rules.specs.Calls.{Result, paused, resulting, pointAnswer, stoneAnswer, stoneGame, stone}
+use Rattle.rules.specs.Calls.{paused, resulting, pointAnswer, stoneAnswer, stoneGame, stone}
 use Rattle.rules.specs.Laws.Colours.{other-player}
-use Rattle.rules.specs.Laws.Calls.{accepted-on, accepted-empty, accepted-no-suicide}
+use Rattle.rules.specs.Laws.Lists.{not-both}
+use Rattle.rules.specs.Laws.Calls.{then-first, then-second, refuse-not, accepted-on, accepted-empty, accepted-no-suicide}
 use Rattle.rules.specs.Laws.Keep.{stone-keeps}
 use Rattle.rules.specs.Laws.Records.{bytesAfter-length, recordsAfter-fits}
 use Rattle.points.specs.declared.coord.Place.{Place}
@@ -35,7 +36,7 @@ use Rattle.game.specs.declared.state.Game.{Game}
 use Rattle.game.specs.declared.state.Tally.{Tally}
 use Rattle.game.specs.View.{noPoint, turnOf, koOf, outcomeOf, begunOf, viewOf, TrueState, RoomIn}
 use Rattle.game.specs.Laws.View.{turn-player}
-use Rattle.playing.specs.Promise.{CalledTrue}
+use Rattle.playing.specs.Promise.{StoneTold, CalledTrue}
 use Rattle.playing.specs.After.{HeldAfter, PutAfter, stoned}
 use Rattle.playing.specs.Laws.Promise.{true-refused, true-accepted}
 use Rattle.playing.specs.Laws.Count.{turn-same, black-gone, white-gone}
@@ -74,7 +75,7 @@ module _ (g : rules.Game) (bytes : List ℕ) (r c : ℕ) where
       stone-last more =
           unpaused ∙ then-accepted atPoint (limit then noRoom) ok ∙ test-passes MoveLimit noRoom (lt-leb maxStones (g .accepted) more)
 
--- ---- A stone that a true state refuses
+-- ---- The answer in a true state
 
 -- every test lets the stone pass
 pub record Allowed (g : Game) (bytes : List ℕ) (r c : ℕ) : Type 0 where
@@ -83,43 +84,63 @@ pub record Allowed (g : Game) (bytes : List ℕ) (r c : ℕ) : Type 0 where
   pub more : g .accepted < maxStones
   pub free : full bytes (g .records) (coloursOf (g .board)) ≡ false
 
-pub fewer : (g : Game) → TrueState g → g .accepted ≢ maxStones → g .accepted < maxStones
-unfolding viewOf
-fewer g is n = let most = is .game .limited in omega arith
-
-module _ (g : Game) (bytes : List ℕ) (r c : ℕ) (is : TrueState g) (room : RoomIn g (length bytes)) where
+module _ (g : Game) (bytes : List ℕ) (r c : ℕ) where
   abbrev seen : rules.Game
   seen = viewOf g
 
-  abbrev call : Result
-  call = stone seen bytes r c
+  abbrev told : ℕ
+  told = number (stoneAnswer seen bytes r c)
 
-  refused-by : (a : Answer) → stoneAnswer seen bytes r c ≡ a → accepts a ≡ false → {answer : ℕ} → answer ≡ number a → CalledTrue call g bytes answer g bytes
-  unfolding stone
-  refused-by a e no′ told = true-refused g bytes is room (stoneAnswer seen bytes r c) _ _ (ap accepts e ∙ no′) (told ∙ ap number (sym e))
+  pub told-paused : g .passes ≡ 2 → number GamePaused ≡ told
+  unfolding viewOf
+  told-paused e = ap number (sym (stone-paused seen bytes r c e))
 
-  pub play-paused : g .passes ≡ 2 → CalledTrue call g bytes (number GamePaused) g bytes
-  unfolding viewOf accepts number
-  play-paused e = refused-by GamePaused (stone-paused seen bytes r c e) refl refl
-
-  module _ (open′ : g .passes ≢ 2) (answer : ℕ) (told : answer ≡ number (pointAnswer seen bytes (g .flags) r c)) where
-    pub play-refused : answer ≢ 0 → CalledTrue call g bytes answer g bytes
+  module _ (open′ : g .passes ≢ 2) (answer : ℕ) (its : answer ≡ number (pointAnswer seen bytes (g .flags) r c)) where
+    pub told-refused : answer ≢ 0 → answer ≡ told
     unfolding viewOf
-    play-refused n =
-        let bad = other-refuses (pointAnswer seen bytes (g .flags) r c) answer told n in
-        refused-by (pointAnswer seen bytes (g .flags) r c) (stone-point seen bytes r c open′ bad) bad told
+    told-refused n =
+        its ∙ ap number (sym (stone-point seen bytes r c open′ (other-refuses (pointAnswer seen bytes (g .flags) r c) answer its n)))
 
     module _ (zero′ : answer ≡ 0) where
-      pub point-ok : accepts (pointAnswer seen bytes (g .flags) r c) ≡ true
-      point-ok = zero-accepts (pointAnswer seen bytes (g .flags) r c) answer told zero′
+      point-ok : accepts (pointAnswer seen bytes (g .flags) r c) ≡ true
+      point-ok = zero-accepts (pointAnswer seen bytes (g .flags) r c) answer its zero′
 
-      pub play-limit : g .accepted ≡ maxStones → CalledTrue call g bytes (number MoveLimit) g bytes
-      unfolding viewOf accepts number
-      play-limit e = refused-by MoveLimit (stone-limit seen bytes r c open′ point-ok (omega arith)) refl refl
+      pub told-limit : g .accepted ≡ maxStones → number MoveLimit ≡ told
+      unfolding viewOf
+      told-limit e = ap number (sym (stone-limit seen bytes r c open′ point-ok (omega arith)))
 
-      pub play-full : g .accepted ≢ maxStones → full bytes (g .records) (coloursOf (g .board)) ≡ true → CalledTrue call g bytes (number HistoryFull) g bytes
-      unfolding viewOf accepts number
-      play-full n e = refused-by HistoryFull (stone-last seen bytes r c open′ point-ok (fewer g is n) ∙ refuses HistoryFull e) refl refl
+      module _ (is : TrueState g) (n : g .accepted ≢ maxStones) where
+        told-last : told ≡ number (refuse HistoryFull (full bytes (g .records) (coloursOf (g .board))))
+        unfolding viewOf
+        told-last = let most = is .game .limited in ap number (stone-last seen bytes r c open′ point-ok (omega arith))
+
+        pub told-full : full bytes (g .records) (coloursOf (g .board)) ≡ true → number HistoryFull ≡ told
+        told-full e = sym (told-last ∙ ap number (refuses HistoryFull e))
+
+        pub told-accepted : full bytes (g .records) (coloursOf (g .board)) ≡ false → number Accepted ≡ told
+        told-accepted e = sym (told-last ∙ ap number (passes HistoryFull e))
+
+-- ---- A stone by its answer
+
+module _ (g : Game) (bytes : List ℕ) (r c answer : ℕ) (is : StoneTold g bytes r c answer) where
+  pub told-keeps : answer ≢ 0 → CalledTrue (stone (viewOf g) bytes r c) g bytes answer g bytes
+  unfolding stone
+  told-keeps n =
+      let its = stoneAnswer (viewOf g) bytes r c in
+      true-refused g bytes (is .state) (is .room) its _ _ (other-refuses its answer (is .told) n) (is .told)
+
+  pub told-allowed : answer ≡ 0 → Allowed g bytes r c
+  unfolding viewOf stoneAnswer paused accepts number
+  told-allowed z =
+      let ok = zero-accepts (stoneAnswer (viewOf g) bytes r c) answer (is .told) z in
+      let point = then-second _ _ ok in
+      let limit = then-second _ _ point in
+      record {
+        unpaused = λ e. not-both (eq-eqb (g .passes) 2 e) (refuse-not GamePaused _ refl (then-first _ _ ok));
+        point = then-first _ _ point;
+        more = leb-false maxStones (g .accepted) (refuse-not MoveLimit _ refl (then-first _ _ limit));
+        free = refuse-not HistoryFull _ refl (then-second _ _ limit);
+      }
 
 -- ---- A stone that a true state accepts
 

@@ -14,7 +14,7 @@ use Rattle.checking.proofs.point.forbidden_answer.Tie as tie
 
 -- the answer, once it is known whether the board is recorded
 settles : (c : tie.After-told)
-    → let start = c .before .before .before .before .before .before .before .before .before .before .before .before .before .before in
+    → let start = c .before .before .before .before .before .before .before .before .before .before .before .before .before in
     let a = start .args in
     settled (c .told .result) (recorded (a .history .now) (a .game .records) (resulting (viewOf (a .game)) (a .point)))
     ≡ number (forbiddenAnswer (viewOf (a .game)) (a .history .now) (a .flags) (a .point))
@@ -22,7 +22,7 @@ settles c =
     let mover = c .before .before in
     let looked = mover .before .before in
     let seen = looked .before .before .before .before .before .before .before in
-    let start = seen .before .before .before in
+    let start = seen .before .before in
     told-forbidden (start .args .game) (start .pre .state .board) (start .args .flags) (start .args .point) _ (seen .seen-of .ensures) _ (looked .near .ensures)
     _ (mover .player-of .ensures) _ (c .before .is-ko-point .ensures) _ (c .told .ensures) (start .args .history .now)
 
@@ -32,7 +32,7 @@ seen-of-requires c κs = search needs
 near-requires : tie.Need-near-requires
 near-requires c κs =
     let seen = c .before .before .before .before .before .before in
-    let start = seen .before .before .before in
+    let start = seen .before .before in
     read-shows (start .args .game .board) (start .pre .state .board) _ (seen .seen-of .ensures)
 
 player-of-requires : tie.Need-player-of-requires
@@ -56,7 +56,7 @@ repeats-requires c κs =
     let mover = told .before .before in
     let looked = mover .before .before in
     let seen = looked .before .before .before .before .before .before .before in
-    let start = seen .before .before .before in
+    let start = seen .before .before in
     told-repeating (start .args .game) (start .pre .state .board) (start .args .flags) (start .args .point) _ (seen .seen-of .ensures) _ (looked .near .ensures)
     _ (mover .player-of .ensures) _ (told .before .is-ko-point .ensures) _ (told .told .ensures) _ (start .pre) (ap undecided (c .enum-told .given .1))
 
@@ -73,7 +73,7 @@ returns-2 c =
 returns-3 : tie.Need-returns-3
 returns-3 c =
     let told = c .before .before .before in
-    let a = told .before .before .before .before .before .before .before .before .before .before .before .before .before .before .args in
+    let a = told .before .before .before .before .before .before .before .before .before .before .before .before .before .args in
     ap (λ (t : Told). settled t (recorded (a .history .now) (a .game .records) (resulting (viewOf (a .game)) (a .point)))) (sym (c .before .answer .given .1)) ∙ settles told
 
 pub forbidden-answer-spec : {M : Type 1} → statement M

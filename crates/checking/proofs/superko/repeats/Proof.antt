@@ -19,7 +19,7 @@ player-of-requires : tie.Need-player-of-requires
 player-of-requires c κs = search needs
 
 lay-requires : tie.Need-lay-requires
-lay-requires c κs = repeating-laying _ _ _ (c .before .before .before .pre) _ (c .player-of .ensures)
+lay-requires c κs = repeating-laying _ _ _ (c .before .before .pre) _ (c .player-of .ensures)
 
 record-of-requires : tie.Need-record-of-requires
 record-of-requires c κs = search needs
@@ -27,15 +27,15 @@ record-of-requires c κs = search needs
 is-recorded-requires : tie.Need-is-recorded-requires
 unfolding RoomIn capacity
 is-recorded-requires c κs =
-    let start = c .before .before .before .before .before .before .before in
+    let start = c .before .before .before .before .before in
     record { within = start .pre .asking .room; long = ap length (c .before .record-of .ensures) ∙ length-record _ }
 
 returns : tie.Need-returns
 unfolding resulting viewOf
 returns c =
     let written = c .before .before in
-    let laid = written .before .before in
-    let a = laid .before .before .before .before .args in
+    let laid = written .before in
+    let a = laid .before .before .before .args in
     c .is-recorded .ensures
     ∙ ap (among (a .history .now) (a .game .records)) (written .record-of .ensures)
     ∙ among-recorded (a .history .now) (a .game .records) _
