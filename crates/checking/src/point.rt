@@ -16,16 +16,28 @@ use points::answers::POINT_NOT_EMPTY;
 use points::answers::SUPER_KO;
 ghost use mathlib.Core.Path.{_≡_};
 ghost use lib.ListN.{length};
-ghost use Rattle.rules.specs.Answers.{number};
-ghost use Rattle.rules.specs.Calls.{forbiddenAnswer, pointAnswer};
+ghost use Rattle.rules.specs.Records.{recorded};
+ghost use Rattle.rules.specs.Answers.{number, refuse, SuperKo};
+ghost use Rattle.rules.specs.Calls.{resulting, forbiddenAnswer, pointAnswer};
 ghost use Rattle.game.specs.View.{viewOf, TrueState, RoomIn};
 ghost use Rattle.checking.specs.Told.{atKo};
-ghost use Rattle.checking.specs.Asking.{Asking};
+ghost use Rattle.checking.specs.Asking.{Asking, Repeating};
 
 pub fn is_ko_point(ko: u16, point: usize) -> bool
     ensures { λ r. ⌜ r ≡ atKo ko point ⌝ }
 {
     ko != NO_POINT && point == index(ko)
+}
+
+// The answer where the records decide.
+fn superko_answer(game: Game, history: &[u8], point: usize) -> u8
+    requires { ⌜ Repeating game (length (now history)) point ⌝ }
+    ensures { λ r. ⌜ r ≡ number (refuse SuperKo (recorded (now (history .entry)) (game .records) (resulting (viewOf game) point))) ⌝ }
+{
+    if repeats(game, history, point) {
+        return SUPER_KO;
+    }
+    ACCEPTED
 }
 
 // The answer at an empty point of the board.
@@ -51,10 +63,7 @@ fn forbidden_answer(game: Game, history: &[u8], flags: u8, point: usize) -> u8
         flags,
     );
     let Told::Answer(number) = answer else {
-        if repeats(game, history, point) {
-            return SUPER_KO;
-        }
-        return ACCEPTED;
+        return superko_answer(game, history, point);
     };
     number
 }

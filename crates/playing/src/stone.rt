@@ -27,6 +27,14 @@ ghost use Rattle.game.specs.View.{viewOf, TrueState, RoomIn};
 ghost use Rattle.game.specs.Promise.{Called};
 ghost use Rattle.playing.specs.Promise.{StoneTold, CalledTrue};
 
+// The answer at the point, by the flags of the game. The copy of the game that is lent to it is needed no longer than for this.
+fn by_own_flags(game: Game, history: &[u8], row: u8, column: u8) -> u8
+    requires { ⌜ TrueState game × RoomIn game (length (now history)) ⌝ }
+    ensures { λ r. ⌜ r ≡ number (rules.pointAnswer (viewOf game) (now (history .entry)) (game .flags) row column) ⌝ }
+{
+    point_answer(game, history, game.flags, row, column)
+}
+
 // The answer to a stone, in a state that is true already and has room for its records.
 fn stone_answer(game: Game, history: &[u8], row: u8, column: u8) -> u8
     requires { ⌜ TrueState game × RoomIn game (length (now history)) ⌝ }
@@ -35,7 +43,7 @@ fn stone_answer(game: Game, history: &[u8], row: u8, column: u8) -> u8
     if game.passes == 2 {
         return GAME_PAUSED;
     }
-    let at_point = point_answer(game, history, game.flags, row, column);
+    let at_point = by_own_flags(game, history, row, column);
     if at_point != ACCEPTED {
         return at_point;
     }

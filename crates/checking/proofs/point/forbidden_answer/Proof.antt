@@ -1,8 +1,8 @@
 -- `forbidden_answer`: what the tests tell settles to the answer, by the records where they decide.
-use mathlib.Core.Path.{_≡_, sym, ap, ap₂, _∙_}
+use mathlib.Core.Path.{_≡_, sym, ap, _∙_}
 use borrow.Author.Needs.{needs}
 use Rattle.rules.specs.Records.{recorded}
-use Rattle.rules.specs.Answers.{number, refuse}
+use Rattle.rules.specs.Answers.{number}
 use Rattle.rules.specs.Calls.{resulting, forbiddenAnswer}
 use Rattle.game.specs.View.{viewOf}
 use Rattle.checking.specs.declared.superko.Told.{Told}
@@ -50,8 +50,8 @@ enum-known-answer c = search needs
 enum-told : tie.Need-enum-told
 enum-told c = search needs
 
-repeats-requires : tie.Need-repeats-requires
-repeats-requires c κs =
+superko-answer-requires : tie.Need-superko-answer-requires
+superko-answer-requires c κs =
     let told = c .before .before in
     let mover = told .before .before in
     let looked = mover .before .before in
@@ -61,17 +61,15 @@ repeats-requires c κs =
     _ (mover .player-of .ensures) _ (told .before .is-ko-point .ensures) _ (told .told .ensures) _ (start .pre) (ap undecided (c .enum-told .given .1))
 
 returns : tie.Need-returns
-unfolding refuse number
 returns c =
-    ap₂ settled (sym (c .before .before .enum-told .given .1)) (sym (c .if1 .taken) ∙ c .before .repeats .ensures) ∙ settles (c .before .before .before .before)
+    let told = c .before .before .before in
+    let a = told .before .before .before .before .before .before .before .before .before .before .before .before .before .args in
+    c .superko-answer .ensures
+    ∙ ap (λ (t : Told). settled t (recorded (a .history .now) (a .game .records) (resulting (viewOf (a .game)) (a .point)))) (sym (c .before .enum-told .given .1))
+    ∙ settles told
 
 returns-2 : tie.Need-returns-2
-unfolding refuse number
 returns-2 c =
-    ap₂ settled (sym (c .before .before .enum-told .given .1)) (sym (c .if1 .left) ∙ c .before .repeats .ensures) ∙ settles (c .before .before .before .before)
-
-returns-3 : tie.Need-returns-3
-returns-3 c =
     let told = c .before .before .before in
     let a = told .before .before .before .before .before .before .before .before .before .before .before .before .before .args in
     ap (λ (t : Told). settled t (recorded (a .history .now) (a .game .records) (resulting (viewOf (a .game)) (a .point)))) (sym (c .before .answer .given .1)) ∙ settles told
@@ -87,7 +85,6 @@ forbidden-answer-spec =
     told-requires
     enum-known-answer
     enum-told
-    repeats-requires
+    superko-answer-requires
     returns
-    returns-2
-    returns-3)
+    returns-2)

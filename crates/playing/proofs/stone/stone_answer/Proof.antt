@@ -36,20 +36,20 @@ returns : tie.Need-returns
 unfolding number
 returns c = told-paused _ _ _ _ (c .if1 .taken)
 
-point-answer-requires : tie.Need-point-answer-requires
-point-answer-requires c κs = c .before .before .before .pre
+by-own-flags-requires : tie.Need-by-own-flags-requires
+by-own-flags-requires c κs = c .before .before .before .pre
 
 returns-2 : tie.Need-returns-2
 returns-2 c =
     let at = c .before in
-    told-refused _ _ _ _ (at .before .if1 .left) (at .point-answer .result) (at .point-answer .ensures) (c .if2 .taken)
+    told-refused _ _ _ _ (at .before .if1 .left) (at .by-own-flags .result) (at .by-own-flags .ensures) (c .if2 .taken)
 
 returns-3 : tie.Need-returns-3
 unfolding number
 returns-3 c =
     let left = c .before .before in
     let at = left .before in
-    told-limit _ _ _ _ (unpaused left .if1 .left) (at .point-answer .result) (at .point-answer .ensures) (left .if2 .left) (c .if3 .taken)
+    told-limit _ _ _ _ (unpaused left .if1 .left) (at .by-own-flags .result) (at .by-own-flags .ensures) (left .if2 .left) (c .if3 .taken)
 
 record-of-requires : tie.Need-record-of-requires
 record-of-requires c κs = start c .pre .0 .board
@@ -66,7 +66,7 @@ returns-4 c =
     let more = limited (c .before) in
     let left = pointed more in
     let at = left .before in
-    told-full _ _ _ _ (unpaused left .if1 .left) (at .point-answer .result) (at .point-answer .ensures) (left .if2 .left) (start more .pre .0) (more .if3 .left)
+    told-full _ _ _ _ (unpaused left .if1 .left) (at .by-own-flags .result) (at .by-own-flags .ensures) (left .if2 .left) (start more .pre .0) (more .if3 .left)
     (room-told (c .before) ∙ c .if4 .taken)
 
 returns-5 : tie.Need-returns-5
@@ -75,7 +75,7 @@ returns-5 c =
     let more = limited (c .before) in
     let left = pointed more in
     let at = left .before in
-    told-accepted _ _ _ _ (unpaused left .if1 .left) (at .point-answer .result) (at .point-answer .ensures) (left .if2 .left) (start more .pre .0) (more .if3 .left)
+    told-accepted _ _ _ _ (unpaused left .if1 .left) (at .by-own-flags .result) (at .by-own-flags .ensures) (left .if2 .left) (start more .pre .0) (more .if3 .left)
     (room-told (c .before) ∙ c .if4 .left)
 
 pub stone-answer-spec : {M : Type 1} → statement M
@@ -83,7 +83,7 @@ stone-answer-spec =
     tie.close
     (tie.spec
     returns
-    point-answer-requires
+    by-own-flags-requires
     returns-2
     returns-3
     record-of-requires
