@@ -3,7 +3,6 @@ use game::calls::player_of;
 use game::state::Game;
 use history::lent::is_recorded;
 use history::packing::record_of;
-use laying::lay::Laid;
 use laying::lay::lay;
 use legality::near::Near;
 use legality::near::is_ko;
@@ -17,7 +16,6 @@ ghost use Rattle.rules.specs.Lists.{any};
 ghost use Rattle.rules.specs.Colours.{other};
 ghost use Rattle.rules.specs.Records.{recorded};
 ghost use Rattle.rules.specs.Calls.{resulting};
-ghost use Rattle.laying.specs.Laying.{Laying, LaidOut};
 ghost use Rattle.legality.specs.Near.{besides, caught, catchesMore};
 ghost use Rattle.game.specs.View.{viewOf};
 ghost use Rattle.checking.specs.Told.{superkoTold};
@@ -45,20 +43,12 @@ pub fn superko_told(near: Near, colour: u8, at_ko_point: bool, records: usize) -
     Told::IfRecorded
 }
 
-// The stone laid on a copy of the board, which is needed no longer than for this.
-fn laid_at(game: Game, point: usize, colour: u8) -> Laid
-    requires { ⌜ Laying (game .board) point colour (game .flags) ⌝ }
-    ensures { λ r. ⌜ LaidOut (game .board) point colour (game .flags) r ⌝ }
-{
-    lay(game.board, point, colour, game.flags)
-}
-
 // The board that the stone would leave is among the records.
 pub fn repeats(game: Game, history: &[u8], point: usize) -> bool
     requires { ⌜ Repeating game (length (now history)) point ⌝ }
     ensures { λ r. ⌜ r ≡ recorded (now (history .entry)) (game .records) (resulting (viewOf game) point) ⌝ }
 {
-    let laid = laid_at(game, point, player_of(game.turn));
+    let laid = lay(game.board, point, player_of(game.turn), game.flags);
     let bytes = record_of(laid.board);
     is_recorded(history, game.records, &bytes)
 }

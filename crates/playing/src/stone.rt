@@ -19,47 +19,33 @@ use points::answers::MOVE_LIMIT;
 use points::coord::two_to_1dim;
 use points::sizes::MAX_STONES;
 use points::stones::other;
-ghost use mathlib.Core.Path.{_≡_};
 ghost use lib.ListN.{length};
-ghost use Rattle.rules.specs.Answers.{number};
 ghost use Rattle.rules.specs.Calls as rules;
 ghost use Rattle.game.specs.View.{viewOf, TrueState, RoomIn};
 ghost use Rattle.game.specs.Promise.{Called};
-ghost use Rattle.playing.specs.Promise.{StoneTold, CalledTrue};
+ghost use Rattle.playing.specs.Promise.{Tested, TestsDone, CalledTrue};
 
-// The answer at the point, by the flags of the game. The copy of the game that is lent to it is needed no longer than for this.
-fn by_own_flags(game: Game, history: &[u8], row: u8, column: u8) -> u8
+// What the tests answer but the last, which is for room, in a state that is true already and has room for its records.
+fn tests_answer(game: Game, history: &[u8], row: u8, column: u8) -> u8
     requires { ⌜ TrueState game × RoomIn game (length (now history)) ⌝ }
-    ensures { λ r. ⌜ r ≡ number (rules.pointAnswer (viewOf game) (now (history .entry)) (game .flags) row column) ⌝ }
-{
-    point_answer(game, history, game.flags, row, column)
-}
-
-// The answer to a stone, in a state that is true already and has room for its records.
-fn stone_answer(game: Game, history: &[u8], row: u8, column: u8) -> u8
-    requires { ⌜ TrueState game × RoomIn game (length (now history)) ⌝ }
-    ensures { λ r. ⌜ r ≡ number (rules.stoneAnswer (viewOf game) (now (history .entry)) row column) ⌝ }
+    ensures { λ r. ⌜ Tested game (now (history .entry)) row column r ⌝ }
 {
     if game.passes == 2 {
         return GAME_PAUSED;
     }
-    let at_point = by_own_flags(game, history, row, column);
+    let at_point = point_answer(game, history, game.flags, row, column);
     if at_point != ACCEPTED {
         return at_point;
     }
     if game.accepted == MAX_STONES {
         return MOVE_LIMIT;
     }
-    let bytes = record_of(game.board);
-    if no_room(history, game.records, &bytes) {
-        return HISTORY_FULL;
-    }
     ACCEPTED
 }
 
-// What a stone leaves, by its answer. The tests are done when this is called: two boards laid at once would need a deep stack.
+// What a stone leaves, by the answer of the tests. They are done when this is called: two boards laid at once would need a deep stack.
 fn put_down(game: Game, history: &mut [u8], row: u8, column: u8, answer: u8) -> Answered
-    requires { ⌜ StoneTold game (now history) row column answer ⌝ }
+    requires { ⌜ TestsDone game (now history) row column answer ⌝ }
     ensures { λ r. ⌜ CalledTrue (rules.stone (viewOf game) (now (history .entry)) row column) game (now (history .entry)) (r .answer) (r .game) (now (history .exit)) ⌝ }
 {
     if answer != ACCEPTED {
@@ -69,6 +55,12 @@ fn put_down(game: Game, history: &mut [u8], row: u8, column: u8, answer: u8) -> 
         };
     }
     let bytes = record_of(game.board);
+    if no_room(history, game.records, &bytes) {
+        return Answered {
+            answer: HISTORY_FULL,
+            game: game,
+        };
+    }
     let records = note_board(history, game.records, &bytes);
     let mover = player_of(game.turn);
     let point = two_to_1dim(game.board.width, row, column);
@@ -106,7 +98,7 @@ pub fn play(game: Game, history: &mut [u8], row: u8, column: u8) -> Answered
     requires { ⌜ TrueState game × RoomIn game (length (now history)) ⌝ }
     ensures { λ r. ⌜ CalledTrue (rules.stone (viewOf game) (now (history .entry)) row column) game (now (history .entry)) (r .answer) (r .game) (now (history .exit)) ⌝ }
 {
-    let answer = stone_answer(game, history, row, column);
+    let answer = tests_answer(game, history, row, column);
     put_down(game, history, row, column, answer)
 }
 
@@ -121,6 +113,6 @@ pub fn stone(game: Game, history: &mut [u8], row: u8, column: u8) -> Answered
             game: game,
         };
     }
-    let answer = stone_answer(game, history, row, column);
+    let answer = tests_answer(game, history, row, column);
     put_down(game, history, row, column, answer)
 }

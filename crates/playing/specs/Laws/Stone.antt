@@ -9,7 +9,7 @@ use Prim.Native.Nat.{ℕ, _+_, _≤_, _<_}
 use native.Mathlib.Omega.{arith}
 use lib.Dec.{leb}
 use lib.ListN.{length}
-use borrow.Author.Tests.{eq-eqb, ne-eqb, le-leb, lt-leb, leb-false}
+use borrow.Author.Tests.{eq-eqb, ne-eqb, le-leb, lt-leb}
 use Rattle.rules.specs.Sizes.{maxStones}
 use Rattle.rules.specs.Points.{index}
 use Rattle.rules.specs.Colours.{other}
@@ -19,8 +19,7 @@ use Rattle.rules.specs.Answers.{Answer, number, accepts, refuse, _then_, Accept
 use Rattle.rules.specs.Game as rules
 use Rattle.rules.specs.Calls.{paused, resulting, pointAnswer, stoneAnswer, stoneGame, stone}
 use Rattle.rules.specs.Laws.Colours.{other-player}
-use Rattle.rules.specs.Laws.Lists.{not-both}
-use Rattle.rules.specs.Laws.Calls.{then-first, then-second, refuse-not, accepted-on, accepted-empty, accepted-no-suicide}
+use Rattle.rules.specs.Laws.Calls.{accepted-on, accepted-empty, accepted-no-suicide}
 use Rattle.rules.specs.Laws.Keep.{stone-keeps}
 use Rattle.rules.specs.Laws.Records.{bytesAfter-length, recordsAfter-fits}
 use Rattle.points.specs.declared.coord.Place.{Place}
@@ -36,7 +35,7 @@ use Rattle.game.specs.declared.state.Game.{Game}
 use Rattle.game.specs.declared.state.Tally.{Tally}
 use Rattle.game.specs.View.{noPoint, turnOf, koOf, outcomeOf, begunOf, viewOf, TrueState, RoomIn}
 use Rattle.game.specs.Laws.View.{turn-player}
-use Rattle.playing.specs.Promise.{StoneTold, CalledTrue}
+use Rattle.playing.specs.Promise.{Tested, TestsDone, CalledTrue}
 use Rattle.playing.specs.After.{HeldAfter, PutAfter, stoned}
 use Rattle.playing.specs.Laws.Promise.{true-refused, true-accepted}
 use Rattle.playing.specs.Laws.Count.{turn-same, black-gone, white-gone}
@@ -88,59 +87,53 @@ module _ (g : Game) (bytes : List ℕ) (r c : ℕ) where
   abbrev seen : rules.Game
   seen = viewOf g
 
-  abbrev told : ℕ
-  told = number (stoneAnswer seen bytes r c)
+  refused-by : {answer : ℕ} → answer ≢ 0 → answer ≡ number (stoneAnswer seen bytes r c) → Tested g bytes r c answer
+  refused-by n e = record { refused = λ k. e; unpaused = λ z. absurd (n z); point = λ z. absurd (n z); more = λ z. absurd (n z) }
 
-  pub told-paused : g .passes ≡ 2 → number GamePaused ≡ told
-  unfolding viewOf
-  told-paused e = ap number (sym (stone-paused seen bytes r c e))
+  pub tested-paused : g .passes ≡ 2 → Tested g bytes r c (number GamePaused)
+  unfolding viewOf number
+  tested-paused e = refused-by (λ z. omega (arith, z)) (ap number (sym (stone-paused seen bytes r c e)))
 
   module _ (open′ : g .passes ≢ 2) (answer : ℕ) (its : answer ≡ number (pointAnswer seen bytes (g .flags) r c)) where
-    pub told-refused : answer ≢ 0 → answer ≡ told
+    pub tested-point : answer ≢ 0 → Tested g bytes r c answer
     unfolding viewOf
-    told-refused n =
-        its ∙ ap number (sym (stone-point seen bytes r c open′ (other-refuses (pointAnswer seen bytes (g .flags) r c) answer its n)))
+    tested-point n =
+        refused-by n (its ∙ ap number (sym (stone-point seen bytes r c open′ (other-refuses (pointAnswer seen bytes (g .flags) r c) answer its n))))
 
     module _ (zero′ : answer ≡ 0) where
       point-ok : accepts (pointAnswer seen bytes (g .flags) r c) ≡ true
       point-ok = zero-accepts (pointAnswer seen bytes (g .flags) r c) answer its zero′
 
-      pub told-limit : g .accepted ≡ maxStones → number MoveLimit ≡ told
+      pub tested-limit : g .accepted ≡ maxStones → Tested g bytes r c (number MoveLimit)
+      unfolding viewOf number
+      tested-limit e = refused-by (λ z. omega (arith, z)) (ap number (sym (stone-limit seen bytes r c open′ point-ok (omega arith))))
+
+      pub tested-passed : TrueState g → g .accepted ≢ maxStones → Tested g bytes r c 0
       unfolding viewOf
-      told-limit e = ap number (sym (stone-limit seen bytes r c open′ point-ok (omega arith)))
+      tested-passed is n =
+          let most = is .game .limited in
+          record { refused = λ k. absurd (k refl); unpaused = λ z. open′; point = λ z. point-ok; more = λ z. omega arith }
 
-      module _ (is : TrueState g) (n : g .accepted ≢ maxStones) where
-        told-last : told ≡ number (refuse HistoryFull (full bytes (g .records) (coloursOf (g .board))))
-        unfolding viewOf
-        told-last = let most = is .game .limited in ap number (stone-last seen bytes r c open′ point-ok (omega arith))
+-- ---- A stone by the answer of the tests
 
-        pub told-full : full bytes (g .records) (coloursOf (g .board)) ≡ true → number HistoryFull ≡ told
-        told-full e = sym (told-last ∙ ap number (refuses HistoryFull e))
-
-        pub told-accepted : full bytes (g .records) (coloursOf (g .board)) ≡ false → number Accepted ≡ told
-        told-accepted e = sym (told-last ∙ ap number (passes HistoryFull e))
-
--- ---- A stone by its answer
-
-module _ (g : Game) (bytes : List ℕ) (r c answer : ℕ) (is : StoneTold g bytes r c answer) where
-  pub told-keeps : answer ≢ 0 → CalledTrue (stone (viewOf g) bytes r c) g bytes answer g bytes
+module _ (g : Game) (bytes : List ℕ) (r c answer : ℕ) (is : TestsDone g bytes r c answer) where
+  pub tests-refuse : answer ≢ 0 → CalledTrue (stone (viewOf g) bytes r c) g bytes answer g bytes
   unfolding stone
-  told-keeps n =
+  tests-refuse n =
       let its = stoneAnswer (viewOf g) bytes r c in
-      true-refused g bytes (is .state) (is .room) its _ _ (other-refuses its answer (is .told) n) (is .told)
+      let told = is .tested .refused n in
+      true-refused g bytes (is .state) (is .room) its _ _ (other-refuses its answer told n) told
 
-  pub told-allowed : answer ≡ 0 → Allowed g bytes r c
-  unfolding viewOf stoneAnswer paused accepts number
-  told-allowed z =
-      let ok = zero-accepts (stoneAnswer (viewOf g) bytes r c) answer (is .told) z in
-      let point = then-second _ _ ok in
-      let limit = then-second _ _ point in
-      record {
-        unpaused = λ e. not-both (eq-eqb (g .passes) 2 e) (refuse-not GamePaused _ refl (then-first _ _ ok));
-        point = then-first _ _ point;
-        more = leb-false maxStones (g .accepted) (refuse-not MoveLimit _ refl (then-first _ _ limit));
-        free = refuse-not HistoryFull _ refl (then-second _ _ limit);
-      }
+  module _ (zero′ : answer ≡ 0) where
+    pub no-room-refuses : full bytes (g .records) (coloursOf (g .board)) ≡ true → CalledTrue (stone (viewOf g) bytes r c) g bytes (number HistoryFull) g bytes
+    unfolding viewOf stone accepts number
+    no-room-refuses e =
+        let told = stone-last (viewOf g) bytes r c (is .tested .unpaused zero′) (is .tested .point zero′) (is .tested .more zero′) ∙ refuses HistoryFull e in
+        true-refused g bytes (is .state) (is .room) (stoneAnswer (viewOf g) bytes r c) _ _ (ap accepts told) (ap number (sym told))
+
+    pub tests-allow : full bytes (g .records) (coloursOf (g .board)) ≡ false → Allowed g bytes r c
+    tests-allow e =
+        record { unpaused = is .tested .unpaused zero′; point = is .tested .point zero′; more = is .tested .more zero′; free = e }
 
 -- ---- A stone that a true state accepts
 

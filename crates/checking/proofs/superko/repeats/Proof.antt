@@ -18,8 +18,8 @@ use Rattle.checking.proofs.superko.repeats.Tie as tie
 player-of-requires : tie.Need-player-of-requires
 player-of-requires c κs = search needs
 
-laid-at-requires : tie.Need-laid-at-requires
-laid-at-requires c κs = repeating-laying _ _ _ (c .before .before .pre) _ (c .player-of .ensures)
+lay-requires : tie.Need-lay-requires
+lay-requires c κs = repeating-laying _ _ _ (c .before .before .pre) _ (c .player-of .ensures)
 
 record-of-requires : tie.Need-record-of-requires
 record-of-requires c κs = search needs
@@ -40,10 +40,10 @@ returns c =
     ∙ ap (among (a .history .now) (a .game .records)) (written .record-of .ensures)
     ∙ among-recorded (a .history .now) (a .game .records) _
     ∙ ap (recorded (a .history .now) (a .game .records))
-    (laid .laid-at .ensures .colours
+    (laid .lay .ensures .colours
     ∙ ap (λ (own : ℕ). played (a .game .board .height) (a .game .board .width) (a .game .flags) (coloursOf (a .game .board)) own (a .point)) (laid .before .player-of .ensures))
 
 pub repeats-spec : {M : Type 1} → statement M
 repeats-spec =
     tie.close
-    (tie.spec player-of-requires laid-at-requires record-of-requires is-recorded-requires returns)
+    (tie.spec player-of-requires lay-requires record-of-requires is-recorded-requires returns)

@@ -14,14 +14,14 @@ returns : tie.Need-returns
 unfolding number
 returns c = called-damaged (λ is. not-both (c .before .judge-with .ensures .1 is) (not-true _ (c .if1 .taken)))
 
-stone-answer-requires : tie.Need-stone-answer-requires
-stone-answer-requires c κs = c .before .before .judge-with .ensures .0 (not-false _ (c .before .if1 .left))
+tests-answer-requires : tie.Need-tests-answer-requires
+tests-answer-requires c κs = c .before .before .judge-with .ensures .0 (not-false _ (c .before .if1 .left))
 
 put-down-requires : tie.Need-put-down-requires
 put-down-requires c κs =
     let judged = c .before .before .before in
     let is = judged .before .judge-with .ensures .0 (not-false _ (judged .if1 .left)) in
-    record { state = is .0; room = is .1; told = c .before .stone-answer .ensures }
+    record { state = is .0; room = is .1; tested = c .before .tests-answer .ensures }
 
 same-length : tie.Need-same-length
 same-length c = search needs
@@ -32,4 +32,4 @@ returns-2 c =
     called-true (judged .before .judge-with .ensures .0 (not-false _ (judged .if1 .left))) (c .before .before .put-down .ensures)
 
 pub stone-spec : {M : Type 1} → statement M
-stone-spec = tie.close (tie.spec judge-with-requires returns stone-answer-requires put-down-requires same-length returns-2)
+stone-spec = tie.close (tie.spec judge-with-requires returns tests-answer-requires put-down-requires same-length returns-2)
