@@ -93,13 +93,21 @@ fn put_down(game: Game, history: &mut [u8], row: u8, column: u8, answer: u8) -> 
     }
 }
 
+// As `put_down`, on a copy of the game that lives no longer than for this.
+fn put_apart(game: Game, history: &mut [u8], row: u8, column: u8, answer: u8) -> Answered
+    requires { ⌜ TestsDone game (now history) row column answer ⌝ }
+    ensures { λ r. ⌜ CalledTrue (rules.stone (viewOf game) (now (history .entry)) row column) game (now (history .entry)) (r .answer) (r .game) (now (history .exit)) ⌝ }
+{
+    put_down(game, history, row, column, answer)
+}
+
 // A stone of the player to move, in a state that is true already and has room for its records.
 pub fn play(game: Game, history: &mut [u8], row: u8, column: u8) -> Answered
     requires { ⌜ TrueState game × RoomIn game (length (now history)) ⌝ }
     ensures { λ r. ⌜ CalledTrue (rules.stone (viewOf game) (now (history .entry)) row column) game (now (history .entry)) (r .answer) (r .game) (now (history .exit)) ⌝ }
 {
     let answer = tests_answer(game, history, row, column);
-    put_down(game, history, row, column, answer)
+    put_apart(game, history, row, column, answer)
 }
 
 // A stone of the player to move, whatever the state and the bytes are. The two calls of `play` stand here again: a function that is
