@@ -2,3 +2,4 @@
 pub mod Alone
 pub mod Beside
 pub mod Joined
+pub mod Lifting

@@ -23,8 +23,8 @@ use steps::remove::remove_chain;
 ghost use mathlib.Core.Bool.{cond, not, _&&_};
 ghost use mathlib.Core.Option.{some, none};
 ghost use mathlib.Core.Path.{_≡_};
-ghost use Prim.Native.Nat.{_<_};
-ghost use lib.Dec.{eqb};
+ghost use Prim.Native.Nat.{_≤_, _<_};
+ghost use lib.Dec.{eqb, ltb};
 ghost use lib.ListN.{length, getD};
 ghost use Rattle.rules.specs.Sizes.{maxArea, slots};
 ghost use Rattle.rules.specs.Flags.{SUICIDE, forbids};
@@ -100,6 +100,27 @@ fn is_lost(chain: Chain, flags: u8) -> bool
     flags / 2 % 2 != 1 && is_dead(chain)
 }
 
+// The slot whose turn it is to be lifted if it is dead: those beside the stone, and last the stone's own.
+fn turn_of(owners: &[u16; MAX_AREA], around: Around, i: usize, slot: usize) -> usize
+    requires { ⌜ (length (now owners) ≡ maxArea) × (around .count ≤ 4) ⌝ }
+    ensures { λ r. ⌜ r ≡ cond (ltb i (around .count)) (getD (now (owners .entry)) (getD (around .points) i 0) slots) slot ⌝ }
+{
+    if i < around.count {
+        return owner_beside(owners, around, i);
+    }
+    slot
+}
+
+// The chain is to be lifted: beside the stone if it is the enemy's, the stone's own by the flags.
+fn is_lifted(chain: Chain, beside: bool, enemy: u8, flags: u8) -> bool
+    ensures { λ r. ⌜ r ≡ cond beside (eqb (chain .colour) enemy && eqb (number (chain .liberties)) 0) (not (forbids flags SUICIDE) && eqb (number (chain .liberties)) 0) ⌝ }
+{
+    if beside {
+        return is_captured(chain, enemy);
+    }
+    is_lost(chain, flags)
+}
+
 // A stone of this colour on the point. All is done on one copy of the board, which a step would copy again.
 pub fn lay(mut board: Board, point: usize, colour: u8, flags: u8) -> Laid
     requires { ⌜ Laying board point colour flags ⌝ }
@@ -146,35 +167,31 @@ pub fn lay(mut board: Board, point: usize, colour: u8, flags: u8) -> Laid
     }
     let enemy = other(colour);
     let mut taken = 0u16;
+    let mut lost = 0u16;
     let mut prisoner = 0;
     i = 0;
-    while i < around.count {
-        let owner = owner_beside(&board.owners, around, i);
+    while i <= around.count {
+        let owner = turn_of(&board.owners, around, i, slot);
+        let beside = i < around.count;
         i += 1;
         if owner < SLOTS {
             let chain = board.chains[owner];
-            if is_captured(chain, enemy) {
+            if is_lifted(chain, beside, enemy, flags) {
                 board = remove_chain(board, owner);
-                taken += chain.count;
-                prisoner = index(chain.origin);
+                if beside {
+                    taken += chain.count;
+                    prisoner = index(chain.origin);
+                } else {
+                    lost = chain.count;
+                }
             }
         }
     }
     let ko = ko_point(taken, prisoner);
-    let mine = board.chains[slot];
-    if is_lost(mine, flags) {
-        board = remove_chain(board, slot);
-        return Laid {
-            board: board,
-            taken: taken,
-            lost: mine.count,
-            ko: ko,
-        };
-    }
     Laid {
         board: board,
         taken: taken,
-        lost: 0,
+        lost: lost,
         ko: ko,
     }
 }

@@ -69,54 +69,54 @@ module _ (b : Board) (is : TrueBoard b) (s : ℕ) (so-far : firstFree 0 (b .chai
 module _ (b : Board) (p c flags s : ℕ) (is : Laying b p c flags) (putting : Putting b p c s)
     (start : Board) (placed : start ≡ put b p c s)
     (near : List ℕ) (beside : near ≡ neighbours (b .height) (b .width) p)
-    (whole : Board) (t : ℕ) (gathered : joinAll c near start s ≡ record { board = whole; slot = t })
-    (after : Board) (stones point : ℕ)
-    (taken : takeAll (other c) near (record { board = whole; stones = 0; point = 0 }) ≡ record { board = after; stones = stones; point = point }) where
+    (whole : Board) (t : ℕ) (gathered : joinAll c near start s ≡ record { board = whole; slot = t }) where
   joins : joinAll c (neighbours (b .height) (b .width) p) (put b p c s) s ≡ record { board = whole; slot = t }
   joins = sym (ap₂ (λ (qs : List ℕ) (x : Board). joinAll c qs x s) beside placed) ∙ gathered
-
-  takes :
-      takeAll (other c) (neighbours (b .height) (b .width) p)
-      (record { board = joinAll c (neighbours (b .height) (b .width) p) (put b p c s) s .board; stones = 0; point = 0 })
-      ≡ record { board = after; stones = stones; point = point }
-  takes =
-      ap₂ (λ (qs : List ℕ) (j : Joined). takeAll (other c) qs (record { board = j .board; stones = 0; point = 0 })) (sym beside) joins ∙ taken
 
   pub end-low : t < slots
   end-low = subst (λ (j : Joined). j .slot < slots) joins (slot-low b (is .board) p c s putting)
 
-  pub end-used : used (chainIn after t) ≡ true
-  end-used =
-      sym (ap₂ (λ (h : Haul) (j : Joined). used (chainIn (h .board) (j .slot))) takes joins) ∙ slot-used b (is .board) p c s putting
+  module _ (after : Board) (stones point : ℕ)
+      (taken : takeAll (other c) near (record { board = whole; stones = 0; point = 0 }) ≡ record { board = after; stones = stones; point = point }) where
+    takes :
+        takeAll (other c) (neighbours (b .height) (b .width) p)
+        (record { board = joinAll c (neighbours (b .height) (b .width) p) (put b p c s) s .board; stones = 0; point = 0 })
+        ≡ record { board = after; stones = stones; point = point }
+    takes =
+        ap₂ (λ (qs : List ℕ) (j : Joined). takeAll (other c) qs (record { board = j .board; stones = 0; point = 0 })) (sym beside) joins ∙ taken
 
-  abbrev keep : Bool
-  keep = forbids flags SUICIDE
+    pub end-used : used (chainIn after t) ≡ true
+    end-used =
+        sym (ap₂ (λ (h : Haul) (j : Joined). used (chainIn (h .board) (j .slot))) takes joins) ∙ slot-used b (is .board) p c s putting
 
-  abbrev steps : Laid
-  steps = finished keep t (record { board = after; stones = stones; point = point })
+    abbrev keep : Bool
+    keep = forbids flags SUICIDE
 
-  is-laid : lay b p c s keep ≡ steps
-  unfolding lay
-  is-laid = ap₂ (λ (j : Joined) (h : Haul). finished keep (j .slot) h) joins takes
+    abbrev steps : Laid
+    steps = finished keep t (record { board = after; stones = stones; point = point })
 
-  pub laid-out :
-      (r : code.Laid) (gone : Bool) → not keep && dead after t ≡ gone → r .board ≡ cond gone (remove after t) after → r .taken ≡ stones →
-      r .lost ≡ cond gone (chainIn after t .count) 0 → placeOf (r .ko) ≡ cond (eqb stones 1) (some point) none → LaidOut b p c flags r
-  unfolding finished
-  laid-out r gone test same number own ko =
-      record {
-        board = subst TrueBoard (sym board-is) (lay-true b (is .board) p c s putting flags (is .allowed));
-        tall = ap (λ (x : Board). x .height) board-is ∙ ends b (is .board) p c s putting flags (is .allowed) .tall;
-        wide = ap (λ (x : Board). x .width) board-is ∙ ends b (is .board) p c s putting flags (is .allowed) .wide;
-        colours = ap coloursOf board-is ∙ lay-colours b (is .board) p c s putting flags (is .allowed);
-        taken = number ∙ sym (ap (λ (x : Laid). x .taken) is-laid) ∙ lay-taken b (is .board) p c s putting flags (is .allowed);
-        lost =
-            own
-            ∙ ap (λ (g : Bool). cond g (chainIn after t .count) 0) (sym test)
-            ∙ sym (ap (λ (x : Laid). x .lost) is-laid)
-            ∙ lay-lost b (is .board) p c s putting flags (is .allowed);
-        ko = ko ∙ sym (ap (λ (x : Laid). x .koPoint) is-laid) ∙ lay-ko b (is .board) p c s putting flags (is .allowed);
-      }
-    where
-      board-is : r .board ≡ lay b p c s keep .board
-      board-is = same ∙ ap (λ (g : Bool). cond g (remove after t) after) (sym test) ∙ sym (ap (λ (x : Laid). x .board) is-laid)
+    is-laid : lay b p c s keep ≡ steps
+    unfolding lay
+    is-laid = ap₂ (λ (j : Joined) (h : Haul). finished keep (j .slot) h) joins takes
+
+    pub laid-out :
+        (r : code.Laid) (gone : Bool) → not keep && dead after t ≡ gone → r .board ≡ cond gone (remove after t) after → r .taken ≡ stones →
+        r .lost ≡ cond gone (chainIn after t .count) 0 → placeOf (r .ko) ≡ cond (eqb stones 1) (some point) none → LaidOut b p c flags r
+    unfolding finished
+    laid-out r gone test same number own ko =
+        record {
+          board = subst TrueBoard (sym board-is) (lay-true b (is .board) p c s putting flags (is .allowed));
+          tall = ap (λ (x : Board). x .height) board-is ∙ ends b (is .board) p c s putting flags (is .allowed) .tall;
+          wide = ap (λ (x : Board). x .width) board-is ∙ ends b (is .board) p c s putting flags (is .allowed) .wide;
+          colours = ap coloursOf board-is ∙ lay-colours b (is .board) p c s putting flags (is .allowed);
+          taken = number ∙ sym (ap (λ (x : Laid). x .taken) is-laid) ∙ lay-taken b (is .board) p c s putting flags (is .allowed);
+          lost =
+              own
+              ∙ ap (λ (g : Bool). cond g (chainIn after t .count) 0) (sym test)
+              ∙ sym (ap (λ (x : Laid). x .lost) is-laid)
+              ∙ lay-lost b (is .board) p c s putting flags (is .allowed);
+          ko = ko ∙ sym (ap (λ (x : Laid). x .koPoint) is-laid) ∙ lay-ko b (is .board) p c s putting flags (is .allowed);
+        }
+      where
+        board-is : r .board ≡ lay b p c s keep .board
+        board-is = same ∙ ap (λ (g : Bool). cond g (remove after t) after) (sym test) ∙ sym (ap (λ (x : Laid). x .board) is-laid)

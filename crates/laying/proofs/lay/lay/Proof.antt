@@ -5,9 +5,9 @@ use mathlib.Core.Bool.{Bool, true, false, cond, not, _&&_}
 use mathlib.Core.Path.{_≡_, refl, sym, ap, _∙_, subst}
 use mathlib.Core.Option.{some, none}
 use mathlib.Core.List.{List, []}
-use Prim.Native.Nat.{ℕ, _-_, _≤_, _<_}
+use Prim.Native.Nat.{ℕ, _+_, _-_, _≤_, _<_}
 use native.Mathlib.Omega.{arith}
-use lib.Dec.{eqb}
+use lib.Dec.{eqb, ltb}
 use lib.ListN.{length, getD, take, drop}
 use lib.Seq.{getD-take}
 use borrow.Author.Needs.{needs}
@@ -36,7 +36,8 @@ use Rattle.laying.specs.Laying.{LaidOut}
 use Rattle.laying.specs.Lay.{joinAll, dead, takeAll}
 use Rattle.laying.specs.Laws.Laying.{search-low, search-next, search-found, end-low, end-used, laid-out}
 use Rattle.laying.proofs.Alone.{placed, Passed, passed-owners, passed-owned, passed-unowned, passed-all}
-use Rattle.laying.proofs.Beside.{entry, Gathering, gathering-none, gathering-unowned, gathering-other, gathering-joining, gathering-join, gathering-all, Taking, taking-none, taking-unowned, taking-other, taking-removing, taking-few, taking-take, taking-all}
+use Rattle.laying.proofs.Beside.{entry, Gathering, gathering-none, gathering-unowned, gathering-other, gathering-joining, gathering-join, gathering-all, taking-all}
+use Rattle.laying.proofs.Lifting.{Ended, Lifting, Stands, lifting-none, lifting-unowned, lifting-other, lifting-removing, lifting-few, lifting-take, lifting-own}
 use Rattle.laying.proofs.Joined.{joined-walk, joined-links, joined-count, joined-all}
 use Rattle.laying.proofs.lay.lay.Statement.{statement}
 use Rattle.laying.proofs.lay.lay.Tie as tie
@@ -64,11 +65,11 @@ abbrev μ-loop3 : tie.MeasureT-loop3
 μ-loop3 point colour flags board₀ slot₀ around i₀ board slot i = around .count - i
 
 abbrev Inv-loop4 : tie.InvT-loop4
-Inv-loop4 point colour flags board₀ slot around i₀ enemy taken₀ prisoner₀ board i taken prisoner =
-    Taking board₀ enemy (points around) i board taken prisoner
+Inv-loop4 point colour flags board₀ slot around i₀ enemy taken₀ lost₀ prisoner₀ board i taken lost prisoner =
+    Lifting board₀ enemy (points around) (forbids flags SUICIDE) slot i board taken lost prisoner
 
 abbrev μ-loop4 : tie.MeasureT-loop4
-μ-loop4 point colour flags board₀ slot around i₀ enemy taken₀ prisoner₀ board i taken prisoner = around .count - i
+μ-loop4 point colour flags board₀ slot around i₀ enemy taken₀ lost₀ prisoner₀ board i taken lost prisoner = around .count + 1 - i
 
 -- what is read past the end of an array of chains
 abbrev past : Chain
@@ -102,7 +103,7 @@ abbrev Takes : Type 0
 Takes = tie.At-loop4 Inv-loop μ-loop Inv-loop2 μ-loop2 Inv-loop3 μ-loop3 Inv-loop4 μ-loop4
 
 abbrev Turn-2 : Type 0
-Turn-2 = tie.After-owner-beside3 Inv-loop μ-loop Inv-loop2 μ-loop2 Inv-loop3 μ-loop3 Inv-loop4 μ-loop4
+Turn-2 = tie.After-turn-of Inv-loop μ-loop Inv-loop2 μ-loop2 Inv-loop3 μ-loop3 Inv-loop4 μ-loop4
 
 abbrev End : Type 0
 End = tie.Else7 Inv-loop μ-loop Inv-loop2 μ-loop2 Inv-loop3 μ-loop3 Inv-loop4 μ-loop4
@@ -221,116 +222,91 @@ joining c =
     gathering-joining _ (largest (near turn)) _ _ _ (putting (near turn)) _ (is-put (put-turn turn)) _ (listed (near turn)) _ _ _ (gathering turn)
     (in-near turn) _ (here turn) _ (its turn) past (c .before .before .before .if5 .taken) _ (c .before .joins .ensures) (c .if6 .taken)
 
--- ---- Taking
+-- ---- Lifting
 
 enemy : (c : tie.After-other Inv-loop μ-loop Inv-loop2 μ-loop2 Inv-loop3 μ-loop3 Inv-loop4 μ-loop4) → Player (c .other .result)
 enemy c = subst Player (sym (c .other .ensures)) (other-player _ (first (near-put (c .before .before .before .before)) .pre .player))
 
-abbrev takes-of : Turn-2 → Takes
-takes-of c = c .before .before .before .before .before
-
 abbrev joins-end : Takes → Joins
 joins-end c = c .before .before .before .before
 
+abbrev put-end : Takes → Put
+put-end c = joins-end c .before
+
 abbrev near-take : Takes → Near
-near-take c = near-put (joins-end c .before)
+near-take c = near-put (put-end c)
+
+-- the board with the stone joined, and its slot then
+abbrev whole : Takes → Board
+whole c = joins-end c .loop3 .board
+
+abbrev mine : Takes → ℕ
+mine c = joins-end c .loop3 .slot
+
+abbrev beside : Takes → List ℕ
+beside c = points (around (near-take c))
+
+gathered :
+    (c : Takes) →
+    joinAll (first (near-take c) .args .colour) (beside c) (start (put-end c)) (free (near-take c)) ≡ record { board = whole c; slot = mine c }
+gathered c =
+    gathering-all _ (largest (near-take c)) _ _ _ (putting (near-take c)) _ (is-put (put-end c)) _ (listed (near-take c)) _ _ _
+    (joins-end c .loop3 .inv) (omega (arith, long (near-take c), c .before .before .if4 .left))
+
+mine-low : (c : Takes) → mine c < slots
+mine-low c =
+    end-low _ _ _ _ _ (first (near-take c) .pre) (putting (near-take c)) _ (is-put (put-end c)) _ (listed (near-take c)) _ _ (gathered c)
+
+-- what is taken of the enemy that the code names is what is taken of the other colour
+of-other :
+    (c : Takes) (after : Board) (stones point : ℕ) →
+    takeAll (c .before .other .result) (beside c) (record { board = whole c; stones = 0; point = 0 })
+    ≡ record { board = after; stones = stones; point = point } →
+    takeAll (other (first (near-take c) .args .colour)) (beside c) (record { board = whole c; stones = 0; point = 0 })
+    ≡ record { board = after; stones = stones; point = point }
+of-other c after stones point e =
+    sym (ap (λ (f : ℕ). takeAll f (beside c) (record { board = whole c; stones = 0; point = 0 })) (c .before .other .ensures)) ∙ e
+
+stands : (c : Takes) → Stands (whole c) (c .before .other .result) (beside c) (forbids (first (near-take c) .args .flags) SUICIDE) (mine c)
+stands c after stones point e =
+    end-used _ _ _ _ _ (first (near-take c) .pre) (putting (near-take c)) _ (is-put (put-end c)) _ (listed (near-take c)) _ _ (gathered c) _ _ _
+    (of-other c after stones point e)
+
+abbrev takes-of : Turn-2 → Takes
+takes-of c = c .before .before .before .before .before
 
 abbrev near-2 : Turn-2 → Near
 near-2 c = near-take (takes-of c)
 
-in-turn-2 : (c : Turn-2) → takes-of c .loop4 .i < around (near-2 c) .count
-in-turn-2 c = c .before .before .before .if7 .taken
-
-taking :
-    (c : Turn-2) →
-    let loop = takes-of c in
-    Taking (joins-end loop .loop3 .board) (loop .before .other .result) (points (around (near-2 c)))
-    (loop .loop4 .i) (loop .loop4 .board) (loop .loop4 .taken) (loop .loop4 .prisoner)
-taking c = takes-of c .loop4 .inv
-
-in-near-2 : (c : Turn-2) → takes-of c .loop4 .i < length (points (around (near-2 c)))
-in-near-2 c = omega (arith, long (near-2 c), in-turn-2 c)
+in-turn-2 : (c : Turn-2) → takes-of c .loop4 .i ≤ length (beside (takes-of c))
+in-turn-2 c = omega (arith, long (near-2 c), c .before .before .before .if7 .taken)
 
 abbrev point-2 : Turn-2 → ℕ
 point-2 c = getD (around (near-2 c) .points) (takes-of c .loop4 .i) 0
 
-here-2 : (c : Turn-2) → point-2 c ≡ getD (points (around (near-2 c))) (takes-of c .loop4 .i) 0
-here-2 c = point-here (near-2 c) _ (in-turn-2 c)
+here-2 : (c : Turn-2) → takes-of c .loop4 .i < length (beside (takes-of c)) → point-2 c ≡ getD (beside (takes-of c)) (takes-of c .loop4 .i) 0
+here-2 c l = point-here (near-2 c) _ (omega (arith, long (near-2 c), l))
 
-its-2 : (c : Turn-2) → c .owner-beside3 .result ≡ owner (takes-of c .loop4 .board) (point-2 c)
-its-2 c = owner-here _ _ _ (c .owner-beside3 .ensures)
+its-2 :
+    (c : Turn-2) →
+    c .turn-of .result ≡ cond (ltb (takes-of c .loop4 .i) (length (beside (takes-of c)))) (owner (takes-of c .loop4 .board) (point-2 c)) (mine (takes-of c))
+unfolding owner
+its-2 c =
+    c .turn-of .ensures
+    ∙ ap (λ (n : ℕ). cond (ltb (takes-of c .loop4 .i) n) (getD (takes-of c .loop4 .board .owners) (point-2 c) slots) (mine (takes-of c)))
+    (sym (long (near-2 c)))
 
 -- ---- The end
 
 abbrev takes-end : End → Takes
 takes-end c = c .before .before
 
-abbrev put-end : End → Put
-put-end c = joins-end (takes-end c) .before
-
-abbrev near-end : End → Near
-near-end c = near-put (put-end c)
-
--- the board with the stone joined and its slot then, and the board with the dead enemy lifted
-abbrev whole : End → Board
-whole c = joins-end (takes-end c) .loop3 .board
-
-abbrev mine : End → ℕ
-mine c = joins-end (takes-end c) .loop3 .slot
-
-abbrev after : End → Board
-after c = takes-end c .loop4 .board
-
-gathered :
-    (c : End) →
-    joinAll (first (near-end c) .args .colour) (points (around (near-end c))) (start (put-end c)) (free (near-end c))
-    ≡ record { board = whole c; slot = mine c }
-gathered c =
-    gathering-all _ (largest (near-end c)) _ _ _ (putting (near-end c)) _ (is-put (put-end c)) _ (listed (near-end c)) _ _ _
-    (joins-end (takes-end c) .loop3 .inv) (omega (arith, long (near-end c), takes-end c .before .before .if4 .left))
-
-taken-all :
-    (c : End) →
-    takeAll (other (first (near-end c) .args .colour)) (points (around (near-end c))) (record { board = whole c; stones = 0; point = 0 })
-    ≡ record { board = after c; stones = takes-end c .loop4 .taken; point = takes-end c .loop4 .prisoner }
-taken-all c =
-    sym
-    (ap (λ (f : ℕ). takeAll f (points (around (near-end c))) (record { board = whole c; stones = 0; point = 0 }))
-    (takes-end c .before .other .ensures))
-    ∙ taking-all _ _ _ (enemy (takes-end c .before)) _ _ _ _ (takes-end c .loop4 .inv) (omega (arith, long (near-end c), c .if7 .left))
-
-ended-low : (c : End) → mine c < slots
-ended-low c =
-    end-low _ _ _ _ _ (first (near-end c) .pre) (putting (near-end c)) _ (is-put (put-end c)) _ (listed (near-end c)) _ _ (gathered c) _ _ _
-    (taken-all c)
-
-ended-used : (c : End) → used (chainIn (after c) (mine c)) ≡ true
-ended-used c =
-    end-used _ _ _ _ _ (first (near-end c) .pre) (putting (near-end c)) _ (is-put (put-end c)) _ (listed (near-end c)) _ _ (gathered c) _ _ _
-    (taken-all c)
-
-ended-entry : (c : End) → getD (after c .chains) (mine c) past ≡ chainIn (after c) (mine c)
-ended-entry c = entry _ (takes-end c .loop4 .inv .table) past _ (ended-low c)
-
-lost-test :
-    (c : End) →
-    let keep = forbids (first (near-end c) .args .flags) SUICIDE in
-    not keep && dead (after c) (mine c) ≡ not keep && eqb (number (getD (after c .chains) (mine c) past .liberties)) 0
-unfolding dead
-lost-test c =
-    sym (ap (λ (x : Chain). not (forbids (first (near-end c) .args .flags) SUICIDE) && eqb (number (x .liberties)) 0) (ended-entry c))
-
 ended :
     (c : End) →
-    let args = first (near-end c) .args in
-    (r : code.Laid) (gone : Bool) → not (forbids (args .flags) SUICIDE) && dead (after c) (mine c) ≡ gone →
-    r .board ≡ cond gone (remove (after c) (mine c)) (after c) → r .taken ≡ takes-end c .loop4 .taken →
-    r .lost ≡ cond gone (chainIn (after c) (mine c) .count) 0 →
-    placeOf (r .ko) ≡ cond (eqb (takes-end c .loop4 .taken) 1) (some (takes-end c .loop4 .prisoner)) none →
-    LaidOut (args .t1) (args .point) (args .colour) (args .flags) r
-ended c =
-    laid-out _ _ _ _ _ (first (near-end c) .pre) (putting (near-end c)) _ (is-put (put-end c)) _ (listed (near-end c)) _ _ (gathered c) _ _ _
-    (taken-all c)
+    let loop = takes-end c in
+    Ended (whole loop) (loop .before .other .result) (beside loop) (forbids (first (near-take loop) .args .flags) SUICIDE) (mine loop)
+    (loop .loop4 .board) (loop .loop4 .taken) (loop .loop4 .lost) (loop .loop4 .prisoner)
+ended c = takes-end c .loop4 .inv .own (omega (arith, long (near-take (takes-end c)), c .if7 .left))
 
 -- ---- The needs
 
@@ -538,14 +514,15 @@ other-requires : tie.Need-other-requires Inv-loop μ-loop Inv-loop2 μ-loop2 Inv
 other-requires c κs = search needs
 
 loop4-holds : tie.Need-loop4-holds Inv-loop μ-loop Inv-loop2 μ-loop2 Inv-loop3 μ-loop3 Inv-loop4 μ-loop4
-loop4-holds c = taking-none _ _ _ (enemy c) (c .before .before .before .loop3 .inv .so-far .table)
+loop4-holds c = lifting-none _ _ _ _ _ (enemy c) (c .before .before .before .loop3 .inv .so-far .table)
 
-owner-beside-requires-3 : tie.Need-owner-beside-requires-3 Inv-loop μ-loop Inv-loop2 μ-loop2 Inv-loop3 μ-loop3 Inv-loop4 μ-loop4
-owner-beside-requires-3 c κs =
-    let loop = c .before .before .before .before in (loop .loop4 .inv .table .shape .owners, omega (arith, few (near-take loop), c .before .before .if7 .taken))
+turn-of-requires : tie.Need-turn-of-requires Inv-loop μ-loop Inv-loop2 μ-loop2 Inv-loop3 μ-loop3 Inv-loop4 μ-loop4
+turn-of-requires c κs =
+    let loop = c .before .before .before .before in
+    (loop .loop4 .inv .beside (omega (arith, long (near-take loop), c .before .before .if7 .taken)) .table .shape .owners, few (near-take loop))
 
 add-i-3 : tie.Need-add-i-3 Inv-loop μ-loop Inv-loop2 μ-loop2 Inv-loop3 μ-loop3 Inv-loop4 μ-loop4
-add-i-3 c = omega (arith, few (near-2 c), in-turn-2 c)
+add-i-3 c = omega (arith, few (near-2 (c .before)), long (near-2 (c .before)), in-turn-2 (c .before))
 
 mul-chain-2 : tie.Need-mul-chain-2 Inv-loop μ-loop Inv-loop2 μ-loop2 Inv-loop3 μ-loop3 Inv-loop4 μ-loop4
 mul-chain-2 c = omega arith
@@ -553,23 +530,45 @@ mul-chain-2 c = omega arith
 element-copy-out-chain : tie.Need-element-copy-out-chain Inv-loop μ-loop Inv-loop2 μ-loop2 Inv-loop3 μ-loop3 Inv-loop4 μ-loop4
 element-copy-out-chain c = c .if8 .taken
 
-is-captured-requires : tie.Need-is-captured-requires Inv-loop μ-loop Inv-loop2 μ-loop2 Inv-loop3 μ-loop3 Inv-loop4 μ-loop4
-is-captured-requires c κs = search needs
+is-lifted-requires : tie.Need-is-lifted-requires Inv-loop μ-loop Inv-loop2 μ-loop2 Inv-loop3 μ-loop3 Inv-loop4 μ-loop4
+is-lifted-requires c κs = search needs
+
+-- whether the chain is lifted, as the turn asks it
+tested :
+    (c : tie.After-is-lifted Inv-loop μ-loop Inv-loop2 μ-loop2 Inv-loop3 μ-loop3 Inv-loop4 μ-loop4) →
+    let turn = c .before .before .before .before in
+    let chain = getD (takes-of turn .loop4 .board .chains) (turn .turn-of .result) past in
+    c .is-lifted .result
+    ≡ cond (ltb (takes-of turn .loop4 .i) (length (beside (takes-of turn))))
+    (eqb (chain .colour) (takes-of turn .before .other .result) && eqb (number (chain .liberties)) 0)
+    (not (forbids (first (near-2 turn) .args .flags) SUICIDE) && eqb (number (chain .liberties)) 0)
+tested c =
+    let turn = c .before .before .before .before in
+    let chain = getD (takes-of turn .loop4 .board .chains) (turn .turn-of .result) past in
+    c .is-lifted .ensures
+    ∙ ap
+    (λ (n : ℕ). cond (ltb (takes-of turn .loop4 .i) n)
+    (eqb (chain .colour) (takes-of turn .before .other .result) && eqb (number (chain .liberties)) 0)
+    (not (forbids (first (near-2 turn) .args .flags) SUICIDE) && eqb (number (chain .liberties)) 0))
+    (sym (long (near-2 turn)))
 
 remove-chain-requires : tie.Need-remove-chain-requires Inv-loop μ-loop Inv-loop2 μ-loop2 Inv-loop3 μ-loop3 Inv-loop4 μ-loop4
 remove-chain-requires c κs =
-    let turn = c .before .before .before .before in
-    taking-removing _ _ _ (enemy (takes-of turn .before)) _ _ _ _ (taking turn) (in-near-2 turn) _ (here-2 turn) _ (its-2 turn)
-    past (c .before .before .before .if8 .taken) _ (c .before .is-captured .ensures) (c .if9 .taken)
+    let turn = c .before .before .before .before .before in
+    lifting-removing _ _ _ _ _ (enemy (takes-of turn .before)) (mine-low (takes-of turn)) (stands (takes-of turn)) _ _ _ _ _ (takes-of turn .loop4 .inv) (in-turn-2 turn) _
+    (here-2 turn) _ (its-2 turn)
+    past (c .before .before .before .if8 .taken) _ (tested (c .before)) (c .if9 .taken)
 
 add-taken : tie.Need-add-taken Inv-loop μ-loop Inv-loop2 μ-loop2 Inv-loop3 μ-loop3 Inv-loop4 μ-loop4
 add-taken c =
-    let dead = c .before .before in
-    let turn = dead .before .before .before .before in
-    let some =
-    taking-few _ _ _ (enemy (takes-of turn .before)) _ _ _ _ (taking turn) (in-near-2 turn) _ (here-2 turn) _ (its-2 turn)
-    past (dead .before .before .before .if8 .taken) _ (dead .before .is-captured .ensures) (dead .if9 .taken) in
-    omega (arith, some, taking turn .few, few (near-2 turn), in-turn-2 turn)
+    let dead = c .before .before .before in
+    let turn = dead .before .before .before .before .before in
+    let (so-far, more) =
+    lifting-few _ _ _ _ _ (enemy (takes-of turn .before)) (mine-low (takes-of turn)) (stands (takes-of turn)) _ _ _ _ _ (takes-of turn .loop4 .inv) (in-turn-2 turn) _
+    (here-2 turn) _ (its-2 turn)
+    past (dead .before .before .before .if8 .taken) _ (tested (dead .before)) (dead .if9 .taken)
+    (ap (ltb (takes-of turn .loop4 .i)) (long (near-2 turn)) ∙ c .before .if10 .taken) in
+    omega (arith, more, so-far, few (near-2 turn), long (near-2 turn), in-turn-2 turn)
 
 index-requires : tie.Need-index-requires Inv-loop μ-loop Inv-loop2 μ-loop2 Inv-loop3 μ-loop3 Inv-loop4 μ-loop4
 index-requires c κs = search needs
@@ -579,56 +578,55 @@ loop4-less c = omega arith
 
 loop4-again : tie.Need-loop4-again Inv-loop μ-loop Inv-loop2 μ-loop2 Inv-loop3 μ-loop3 Inv-loop4 μ-loop4
 loop4-again c =
-    let dead = c .before .before .before in
-    let turn = dead .before .before .before .before in
-    taking-take _ _ _ (enemy (takes-of turn .before)) _ _ _ _ (taking turn) (in-near-2 turn) _ (here-2 turn) _ (its-2 turn)
-    past (dead .before .before .before .if8 .taken) _ (dead .before .is-captured .ensures) (dead .if9 .taken) _
-    (c .before .before .remove-chain .ensures) _ (c .index .ensures)
+    let dead = c .before .before .before .before in
+    let turn = dead .before .before .before .before .before in
+    lifting-take _ _ _ _ _ (enemy (takes-of turn .before)) (mine-low (takes-of turn)) (stands (takes-of turn)) _ _ _ _ _ (takes-of turn .loop4 .inv) (in-turn-2 turn) _
+    (here-2 turn) _ (its-2 turn)
+    past (dead .before .before .before .if8 .taken) _ (tested (dead .before)) (dead .if9 .taken)
+    (ap (ltb (takes-of turn .loop4 .i)) (long (near-2 turn)) ∙ c .before .before .if10 .taken) _
+    (c .before .before .before .remove-chain .ensures) _ (c .index .ensures)
 
 loop4-less-2 : tie.Need-loop4-less-2 Inv-loop μ-loop Inv-loop2 μ-loop2 Inv-loop3 μ-loop3 Inv-loop4 μ-loop4
 loop4-less-2 c = omega arith
 
 loop4-again-2 : tie.Need-loop4-again-2 Inv-loop μ-loop Inv-loop2 μ-loop2 Inv-loop3 μ-loop3 Inv-loop4 μ-loop4
 loop4-again-2 c =
-    let turn = c .before .before .before .before in
-    taking-other _ _ _ (enemy (takes-of turn .before)) _ _ _ _ (taking turn) (in-near-2 turn) _ (here-2 turn) _ (its-2 turn)
-    past (c .before .before .before .if8 .taken) _ (c .before .is-captured .ensures) (c .if9 .left)
+    let dead = c .before .before in
+    let turn = dead .before .before .before .before .before in
+    lifting-own _ _ _ _ _ (enemy (takes-of turn .before)) (mine-low (takes-of turn)) (stands (takes-of turn)) _ _ _ _ _ (takes-of turn .loop4 .inv) (in-turn-2 turn) _
+    (here-2 turn) _ (its-2 turn)
+    past (dead .before .before .before .if8 .taken) _ (tested (dead .before)) (dead .if9 .taken)
+    (ap (ltb (takes-of turn .loop4 .i)) (long (near-2 turn)) ∙ c .if10 .left) _ (c .before .remove-chain .ensures)
 
 loop4-less-3 : tie.Need-loop4-less-3 Inv-loop μ-loop Inv-loop2 μ-loop2 Inv-loop3 μ-loop3 Inv-loop4 μ-loop4
 loop4-less-3 c = omega arith
 
 loop4-again-3 : tie.Need-loop4-again-3 Inv-loop μ-loop Inv-loop2 μ-loop2 Inv-loop3 μ-loop3 Inv-loop4 μ-loop4
 loop4-again-3 c =
-    let turn = c .before in
-    taking-unowned _ _ _ (enemy (takes-of turn .before)) _ _ _ _ (taking turn) (in-near-2 turn) _ (here-2 turn) _ (its-2 turn) (c .if8 .left)
+    let turn = c .before .before .before .before .before in
+    lifting-other _ _ _ _ _ (enemy (takes-of turn .before)) (mine-low (takes-of turn)) (stands (takes-of turn)) _ _ _ _ _ (takes-of turn .loop4 .inv) (in-turn-2 turn) _
+    (here-2 turn) _ (its-2 turn)
+    past (c .before .before .before .if8 .taken) _ (tested (c .before)) (c .if9 .left)
+
+loop4-less-4 : tie.Need-loop4-less-4 Inv-loop μ-loop Inv-loop2 μ-loop2 Inv-loop3 μ-loop3 Inv-loop4 μ-loop4
+loop4-less-4 c = omega arith
+
+loop4-again-4 : tie.Need-loop4-again-4 Inv-loop μ-loop Inv-loop2 μ-loop2 Inv-loop3 μ-loop3 Inv-loop4 μ-loop4
+loop4-again-4 c =
+    let turn = c .before .before in
+    lifting-unowned _ _ _ _ _ (enemy (takes-of turn .before)) (mine-low (takes-of turn)) (stands (takes-of turn)) _ _ _ _ _ (takes-of turn .loop4 .inv) (in-turn-2 turn) _
+    (here-2 turn) _ (its-2 turn) (c .if8 .left)
 
 ko-point-requires : tie.Need-ko-point-requires Inv-loop μ-loop Inv-loop2 μ-loop2 Inv-loop3 μ-loop3 Inv-loop4 μ-loop4
 ko-point-requires c κs = search needs
 
-mul-mine : tie.Need-mul-mine Inv-loop μ-loop Inv-loop2 μ-loop2 Inv-loop3 μ-loop3 Inv-loop4 μ-loop4
-mul-mine c = let low = ended-low (c .before) in omega arith
-
-element-copy-out-mine : tie.Need-element-copy-out-mine Inv-loop μ-loop Inv-loop2 μ-loop2 Inv-loop3 μ-loop3 Inv-loop4 μ-loop4
-element-copy-out-mine c = ended-low (c .before)
-
-is-lost-requires : tie.Need-is-lost-requires Inv-loop μ-loop Inv-loop2 μ-loop2 Inv-loop3 μ-loop3 Inv-loop4 μ-loop4
-is-lost-requires c κs = search needs
-
-remove-chain-requires-2 : tie.Need-remove-chain-requires-2 Inv-loop μ-loop Inv-loop2 μ-loop2 Inv-loop3 μ-loop3 Inv-loop4 μ-loop4
-remove-chain-requires-2 c κs =
-    let end = c .before .before .before .before in
-    record { table = takes-end end .loop4 .inv .table; low = ended-low end; is-used = ended-used end }
-
 returns : tie.Need-returns Inv-loop μ-loop Inv-loop2 μ-loop2 Inv-loop3 μ-loop3 Inv-loop4 μ-loop4
 returns c =
-    let end = c .before .before .before .before .before in
-    ended end _ true (lost-test end ∙ sym (c .before .before .is-lost .ensures) ∙ c .before .if10 .taken) (c .remove-chain2 .ensures) refl
-    (ap (λ (x : Chain). x .count) (ended-entry end)) (c .before .before .before .before .ko-point .ensures)
-
-returns-2 : tie.Need-returns-2 Inv-loop μ-loop Inv-loop2 μ-loop2 Inv-loop3 μ-loop3 Inv-loop4 μ-loop4
-returns-2 c =
-    let end = c .before .before .before .before in
-    ended end _ false (lost-test end ∙ sym (c .before .is-lost .ensures) ∙ c .if10 .left) refl refl refl (c .before .before .before .ko-point .ensures)
+    let loop = takes-end (c .before) in
+    let end = ended (c .before) in
+    laid-out _ _ _ _ _ (first (near-take loop) .pre) (putting (near-take loop)) _ (is-put (put-end loop)) _ (listed (near-take loop)) _ _ (gathered loop) _ _ _
+    (of-other loop _ _ _ (taking-all _ _ _ (enemy (loop .before)) _ _ _ _ (end .taken) (omega arith)))
+    _ _ refl (end .same) refl (end .lost) (c .ko-point .ensures)
 
 pub lay-spec : {M : Type 1} → statement M
 lay-spec =
@@ -699,11 +697,11 @@ lay-spec =
     loop3-again-3
     other-requires
     loop4-holds
-    owner-beside-requires-3
+    turn-of-requires
     add-i-3
     mul-chain-2
     element-copy-out-chain
-    is-captured-requires
+    is-lifted-requires
     remove-chain-requires
     add-taken
     index-requires
@@ -713,10 +711,7 @@ lay-spec =
     loop4-again-2
     loop4-less-3
     loop4-again-3
+    loop4-less-4
+    loop4-again-4
     ko-point-requires
-    mul-mine
-    element-copy-out-mine
-    is-lost-requires
-    remove-chain-requires-2
-    returns
-    returns-2)
+    returns)
