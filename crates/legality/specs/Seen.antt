@@ -1,13 +1,15 @@
 -- What a board shows of its points, and what of that stands beside a point.
 use mathlib.Core.List.{List, map}
 use mathlib.Core.Path.{_≡_}
-use Prim.Native.Nat.{ℕ, _≤_}
+use Prim.Native.Nat.{ℕ, _≤_, _<_}
 use lib.ListN.{length, getD}
 use Rattle.rules.specs.Sizes.{maxArea}
 use Rattle.rules.specs.Lists.{tabulate}
 use Rattle.rules.specs.Colours.{at}
 use Rattle.rules.specs.Points.{area, neighbours}
 use Rattle.rules.specs.Chain.{size, liberties}
+use Rattle.chains.specs.declared.group.Chain.{Chain}
+use Rattle.sets.specs.Liberties.{number}
 use Rattle.legality.specs.declared.look.Seen.{Seen}
 use Rattle.legality.specs.declared.near.Near.{Near}
 use Rattle.legality.specs.Near.{inFour, ofStone}
@@ -20,6 +22,12 @@ seenOf h w cols =
       liberties = tabulate (ofStone cols (liberties h w cols)) 0 maxArea;
       stones = tabulate (ofStone cols (size h w cols)) 0 maxArea;
     }
+
+-- what a chain shows at p: where p is not its first point, its liberties stand at the first
+pub record Counted (c : Chain) (liberties : List ℕ) (p : ℕ) : Type 0 where
+  pub long : length liberties ≡ maxArea
+  pub within : p ≤ maxArea
+  pub first : c .origin < p → getD liberties (c .origin) 0 ≡ number (c .liberties)
 
 -- there is a place for each point of the board
 pub record Shows (h w : ℕ) (colours liberties stones : List ℕ) : Type 0 where

@@ -13,8 +13,8 @@ use sets::liberties::number_of_liberties;
 ghost use mathlib.Core.Path.{_≡_};
 ghost use Rattle.board.specs.Board.{coloursOf};
 ghost use Rattle.board.specs.True.{TrueBoard};
-ghost use Rattle.legality.specs.Near.{chainSeen, nothing};
-ghost use Rattle.legality.specs.Seen.{seenOf, Shows, nearIn};
+ghost use Rattle.legality.specs.Near.{nearOf, chainSeen, nothing};
+ghost use Rattle.legality.specs.Seen.{seenOf, Counted, Shows, nearIn};
 
 // Of each point the colour, and the liberties and stones of the chain there, 0 at an empty point.
 pub struct Seen {
@@ -34,6 +34,22 @@ fn chain_seen(chain: Chain) -> Beside
         liberties: number as u16,
         stones: chain.count,
     }
+}
+
+// What is seen of a chain at one of its points. Its liberties are counted at the first of them, and read there for the others.
+fn stone_seen(chain: Chain, liberties: &[u16; MAX_AREA], point: usize) -> Beside
+    requires { ⌜ Counted chain (now liberties) point ⌝ }
+    ensures { λ r. ⌜ r ≡ chainSeen chain ⌝ }
+{
+    let origin = index(chain.origin);
+    if origin < point {
+        return Beside {
+            colour: chain.colour,
+            liberties: liberties[origin],
+            stones: chain.count,
+        };
+    }
+    chain_seen(chain)
 }
 
 // What is seen where no chain stands.
@@ -60,7 +76,7 @@ pub fn seen_of(board: Board) -> Seen
         let owner = index(board.owners[point]);
         let mut seen = nothing_seen();
         if owner < SLOTS {
-            let chain = chain_seen(board.chains[owner]);
+            let chain = stone_seen(board.chains[owner], &liberties, point);
             seen = chain;
         }
         colours[point] = seen.colour;
@@ -106,5 +122,38 @@ pub fn near(
         colours: near_colours,
         liberties: near_liberties,
         stones: near_stones,
+    }
+}
+
+// What stands beside a point of a true board. No other point is read.
+pub fn near_at(board: Board, point: usize) -> Near
+    requires { ⌜ TrueBoard board ⌝ }
+    ensures { λ r. ⌜ r ≡ nearOf (board .height) (board .width) (coloursOf board) point ⌝ }
+{
+    let around = neighbours(board.height, board.width, point);
+    let beside = around.points;
+    let count = around.count;
+    let mut colours = [0u8; 4];
+    let mut liberties = [0u16; 4];
+    let mut stones = [0u16; 4];
+    let mut side = 0;
+    while side < count {
+        let q = index(beside[side]);
+        let owner = index(board.owners[q]);
+        let mut seen = nothing_seen();
+        if owner < SLOTS {
+            let chain = chain_seen(board.chains[owner]);
+            seen = chain;
+        }
+        colours[side] = seen.colour;
+        liberties[side] = seen.liberties;
+        stones[side] = seen.stones;
+        side += 1;
+    }
+    Near {
+        count: count,
+        colours: colours,
+        liberties: liberties,
+        stones: stones,
     }
 }

@@ -1,51 +1,26 @@
 -- `legality::look::near`: after i turns the first i places hold what is shown at the first i points beside. The measure is how many points are left.
-use mathlib.Core.Path.{_≡_, refl, sym, ap, ap₂, _∙_}
-use mathlib.Core.List.{List, map}
-use Prim.Native.Nat.{ℕ, _+_, _-_, _≤_, _<_}
+use mathlib.Core.Path.{_≡_, refl, ap}
+use mathlib.Core.List.{List}
+use Prim.Native.Nat.{ℕ, _-_, _<_}
 use native.Mathlib.Omega.{arith}
-use lib.ListN.{length, getD, set, take, length-map}
-use lib.Seq.{length-take-le}
+use lib.ListN.{length, getD}
 use Rattle.rules.specs.Sizes.{maxArea}
-use Rattle.rules.specs.Points.{area, neighbours}
-use Rattle.points.specs.declared.coord.Around.{Around}
-use Rattle.points.specs.Around.{Holds}
+use Rattle.rules.specs.Points.{area}
 use Rattle.legality.specs.Near.{inFour}
 use Rattle.legality.specs.Seen.{nearIn}
-use Rattle.legality.specs.Laws.Lists.{map-more, inFour-more}
 use Rattle.legality.specs.Laws.Around.{around-on}
 use borrow.Author.Needs.{needs}
+use Rattle.legality.proofs.Sides.{Seeing, more, all}
 use Rattle.legality.proofs.look.near.Statement.{statement}
 use Rattle.legality.proofs.look.near.Tie as tie
 
--- the values at the first i points beside, in four places
-abbrev shown : List ℕ → List ℕ → ℕ → List ℕ
-shown values beside i = inFour (map (λ q. getD values q 0) (take i beside))
-
--- the first i points beside are seen
-record Seeing (cs ls ss beside : List ℕ) (count : ℕ) (colours liberties stones : List ℕ) (i : ℕ) : Type 0 where
-  within : i ≤ count
-  coloured : colours ≡ shown cs beside i
-  breathing : liberties ≡ shown ls beside i
-  counted : stones ≡ shown ss beside i
-
--- one array with one place more
-written :
-    (values beside : List ℕ) (i : ℕ) → i < 4 → length beside ≡ 4 → (xs : List ℕ) → xs ≡ shown values beside i → (q : ℕ) → q ≡ getD beside i 0
-    → set xs i (getD values q 0) ≡ shown values beside (i + 1)
-written values beside i h long xs e q here =
-    ap₂ (λ (l : List ℕ) (p : ℕ). set l i (getD values p 0)) e here
-    ∙ inFour-more (map (λ q. getD values q 0) (take i beside)) i (getD values (getD beside i 0) 0) (length-map (take i beside) _ ∙ length-take-le i beside (omega arith)) h
-    ∙ ap inFour (sym (map-more (λ q. getD values q 0) beside 0 i (omega arith)))
-
--- all of them
-ended : (h w p : ℕ) (around : Around) → Holds around (neighbours h w p) → (values : List ℕ) (i : ℕ) → i ≡ around .count → (xs : List ℕ)
-    → xs ≡ shown values (around .points) i → xs ≡ inFour (map (λ q. getD values q 0) (neighbours h w p))
-ended h w p around holds values i last xs e =
-    e ∙ ap (λ (n : ℕ). shown values (around .points) n) last ∙ ap (λ (ns : List ℕ). inFour (map (λ q. getD values q 0) ns)) (holds .listed)
+-- what an array shows at a point
+abbrev at-point : List ℕ → ℕ → ℕ
+at-point values q = getD values q 0
 
 abbrev Inv-loop : tie.InvT-loop
 Inv-loop colours liberties stones height width point beside count near-colours₀ near-liberties₀ near-stones₀ i₀ near-colours near-liberties near-stones i =
-    Seeing colours liberties stones beside count near-colours near-liberties near-stones i
+    Seeing (at-point colours) (at-point liberties) (at-point stones) beside count near-colours near-liberties near-stones i
 
 abbrev μ-loop : tie.MeasureT-loop
 μ-loop colours liberties stones height width point beside count near-colours₀ near-liberties₀ near-stones₀ i₀ near-colours near-liberties near-stones i =
@@ -123,17 +98,11 @@ loop-again c =
     let read = c .before .before .before in
     let test = read .before in
     let loop = test .before in
-    let long = four (loop .before .before) in
     let a = loop .before .before .before .args in
-    let h = in-four test in
-    let here = read .index .ensures in
-    let inv = loop .loop .inv in
-    record {
-      within = omega (arith, test .loop-test .taken);
-      coloured = written (a .colours .now) _ _ h long _ (inv .coloured) _ here;
-      breathing = written (a .liberties .now) _ _ h long _ (inv .breathing) _ here;
-      counted = written (a .stones .now) _ _ h long _ (inv .counted) _ here;
-    }
+    let here : (values : List ℕ) → getD values (read .index .result) 0 ≡ getD values (getD (loop .before .before .neighbours .result .points) (loop .loop .i) 0) 0 =
+    λ values. ap (at-point values) (read .index .ensures) in
+    more _ _ _ _ _ _ _ _ _ (loop .loop .inv) (test .loop-test .taken) (in-four test) (four (loop .before .before)) _ _ _ (here (a .colours .now))
+    (here (a .liberties .now)) (here (a .stones .now))
 
 returns : tie.Need-returns Inv-loop μ-loop
 unfolding nearIn
@@ -141,16 +110,7 @@ returns c =
     let loop = c .before in
     let near = loop .before .before in
     let a = near .before .args in
-    let holds = near .neighbours .ensures in
-    let inv = loop .loop .inv in
-    let last : loop .loop .i ≡ near .neighbours .result .count = omega (arith, inv .within, c .loop-test .left) in
-    λ i.
-    record {
-      count = sym (holds .counted) i;
-      colours = ended (a .height) (a .width) (a .point) (near .neighbours .result) holds (a .colours .now) _ last _ (inv .coloured) i;
-      liberties = ended (a .height) (a .width) (a .point) (near .neighbours .result) holds (a .liberties .now) _ last _ (inv .breathing) i;
-      stones = ended (a .height) (a .width) (a .point) (near .neighbours .result) holds (a .stones .now) _ last _ (inv .counted) i;
-    }
+    all _ _ _ (a .height) (a .width) (a .point) (near .neighbours .result) (near .neighbours .ensures) _ _ _ _ (loop .loop .inv) (c .loop-test .left)
 
 pub near-spec : {M : Type 1} → statement M
 near-spec =

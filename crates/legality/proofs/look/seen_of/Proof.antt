@@ -1,5 +1,5 @@
 -- `legality::look::seen_of`: after some turns the first places hold what the first points show. The measure is what is left of the places.
-use mathlib.Core.Path.{_≡_, refl, sym, ap, _∙_}
+use mathlib.Core.Path.{_≡_, refl, sym, ap, _∙_, subst}
 use mathlib.Core.List.{List}
 use mathlib.Core.Logic.{⊎-elim}
 use Prim.Native.Nat.{ℕ, _+_, _-_, _≤_, _<_}
@@ -11,15 +11,15 @@ use borrow.Author.Needs.{needs}
 use Rattle.rules.specs.Sizes.{maxArea, slots}
 use Rattle.rules.specs.Lists.{tabulate}
 use Rattle.rules.specs.Colours.{at}
-use Rattle.rules.specs.Chain as chain
-use Rattle.rules.specs.Laws.Lists.{getD-default, length-tabulate, getD-tabulate-zero}
-use Rattle.chains.specs.Group.{freeChain}
+use Rattle.rules.specs.Laws.Lists.{length-tabulate, getD-tabulate-zero}
+use Rattle.chains.specs.declared.group.Chain.{Chain}
 use Rattle.board.specs.declared.goban.Board.{Board}
 use Rattle.board.specs.Board.{owner, chainIn, coloursOf}
 use Rattle.legality.specs.declared.near.Beside.{Beside}
-use Rattle.legality.specs.Near.{ofStone, chainSeen}
-use Rattle.legality.specs.Seen.{seenOf}
-use Rattle.legality.specs.Laws.Near.{seen-nothing, colour-told, liberties-told, stones-told}
+use Rattle.legality.specs.Near.{chainSeen}
+use Rattle.legality.specs.Seen.{seenOf, Counted}
+use Rattle.legality.specs.Laws.Near.{libertiesAt, stonesAt, owner-read, chain-read, nothing-read, colour-told, liberties-told, stones-told}
+use Rattle.legality.specs.Laws.Seen.{first-counted}
 use Rattle.legality.proofs.look.seen_of.Statement.{statement}
 use Rattle.legality.proofs.look.seen_of.Tie as tie
 
@@ -48,17 +48,11 @@ whole f xs n done h =
 
 -- ---- The three of them
 
-abbrev liberties-at : Board → ℕ → ℕ
-liberties-at b = ofStone (coloursOf b) (chain.liberties (b .height) (b .width) (coloursOf b))
-
-abbrev stones-at : Board → ℕ → ℕ
-stones-at b = ofStone (coloursOf b) (chain.size (b .height) (b .width) (coloursOf b))
-
 record Seeing (b : Board) (cs ls ss : List ℕ) (n : ℕ) : Type 0 where
   within : n ≤ maxArea
   colours : Upto (at (coloursOf b)) cs n
-  liberties : Upto (liberties-at b) ls n
-  stones : Upto (stones-at b) ss n
+  liberties : Upto (libertiesAt b) ls n
+  stones : Upto (stonesAt b) ss n
 
 abbrev Inv-loop : tie.InvT-loop
 Inv-loop board colours₀ liberties₀ stones₀ point₀ colours liberties stones point = Seeing board colours liberties stones point
@@ -70,25 +64,16 @@ abbrev μ-loop : tie.MeasureT-loop
 shown : (c : tie.Joined1 Inv-loop μ-loop)
     → let loop = c .before .before .before .before .before in
     c .if1 .seen ≡ chainSeen (chainIn (loop .before .args .t1) (owner (loop .before .args .t1) (loop .loop .point)))
-unfolding owner chainIn
 shown c =
     let read = c .before .before in
     let loop = read .before .before .before in
-    let board = loop .before .args .t1 in
+    let b = loop .before .args .t1 in
     let is = loop .before .pre in
-    let own = read .index .result in
-    let low : loop .loop .point < maxArea = read .before .before .loop-test .taken in
-    let its : own ≡ owner board (loop .loop .point) =
-    read .index .ensures ∙ getD-default (board .owners) (loop .loop .point) 0 slots (omega (arith, is .table .shape .owners)) in
+    let p = loop .loop .point in
+    let low : p < maxArea = read .before .before .loop-test .taken in
     ⊎-elim
-    (λ w.
-    w .3 ∙ w .2 .ensures
-    ∙ ap chainSeen (getD-default (board .chains) own _ freeChain (omega (arith, is .table .shape .chains, w .0 .taken)))
-    ∙ ap (λ (s : ℕ). chainSeen (chainIn board s)) its)
-    (λ w.
-    w .1 ∙ c .before .nothing-seen .ensures
-    ∙ sym (seen-nothing board (is .table .shape) own (w .0 .left))
-    ∙ ap (λ (s : ℕ). chainSeen (chainIn board s)) its)
+    (λ w. w .4 ∙ w .3 .ensures ∙ ap chainSeen (chain-read b is p low _ (read .index .ensures) (w .0 .taken) _))
+    (λ w. w .1 ∙ c .before .nothing-seen .ensures ∙ nothing-read b is p low _ (read .index .ensures) (w .0 .left))
     (c .if1 .came)
 
 loop-holds : tie.Need-loop-holds Inv-loop μ-loop
@@ -112,14 +97,26 @@ index-requires c κs = search needs
 nothing-seen-requires : tie.Need-nothing-seen-requires Inv-loop μ-loop
 nothing-seen-requires c κs = search needs
 
-mul-chain-seen : tie.Need-mul-chain-seen Inv-loop μ-loop
-mul-chain-seen c = omega arith
+mul-stone-seen : tie.Need-mul-stone-seen Inv-loop μ-loop
+mul-stone-seen c = omega arith
 
-element-copy-out-chain-seen : tie.Need-element-copy-out-chain-seen Inv-loop μ-loop
-element-copy-out-chain-seen c = omega arith
+element-copy-out-stone-seen : tie.Need-element-copy-out-stone-seen Inv-loop μ-loop
+element-copy-out-stone-seen c = omega arith
 
-chain-seen-requires : tie.Need-chain-seen-requires Inv-loop μ-loop
-chain-seen-requires c κs = search needs
+stone-seen-requires : tie.Need-stone-seen-requires Inv-loop μ-loop
+stone-seen-requires c κs =
+    let test = c .before .before in
+    let read = test .before .before in
+    let loop = read .before .before .before in
+    let b = loop .before .args .t1 in
+    let is = loop .before .pre in
+    let p = loop .loop .point in
+    let low : p < maxArea = read .before .before .loop-test .taken in
+    let its = read .index .ensures in
+    let below : read .index .result < slots = test .if1 .taken in
+    let done = loop .loop .inv .liberties in
+    subst (λ (x : Chain). Counted x (loop .loop .liberties) p) (sym (chain-read b is p low _ its below _))
+    (first-counted b is p (λ z. let e = owner-read b is p low _ its ∙ z in omega arith) _ (done .long) (omega arith) (done .read))
 
 array-write-colours : tie.Need-array-write-colours Inv-loop μ-loop
 array-write-colours c = omega (arith, c .before .before .before .before .loop-test .taken)
@@ -153,8 +150,8 @@ loop-again c =
     record {
       within = omega arith;
       colours = more (at (coloursOf b)) _ p _ (loop .loop .inv .colours) h (ap (λ (x : Beside). x .colour) (shown c) ∙ colour-told b is p);
-      liberties = more (liberties-at b) _ p _ (loop .loop .inv .liberties) h (ap (λ (x : Beside). x .liberties) (shown c) ∙ liberties-told b is p);
-      stones = more (stones-at b) _ p _ (loop .loop .inv .stones) h (ap (λ (x : Beside). x .stones) (shown c) ∙ stones-told b is p);
+      liberties = more (libertiesAt b) _ p _ (loop .loop .inv .liberties) h (ap (λ (x : Beside). x .liberties) (shown c) ∙ liberties-told b is p);
+      stones = more (stonesAt b) _ p _ (loop .loop .inv .stones) h (ap (λ (x : Beside). x .stones) (shown c) ∙ stones-told b is p);
     }
 
 returns : tie.Need-returns Inv-loop μ-loop
@@ -167,8 +164,8 @@ returns c =
     λ i.
     record {
       colours = whole (at (coloursOf b)) _ _ (inv .colours) end i;
-      liberties = whole (liberties-at b) _ _ (inv .liberties) end i;
-      stones = whole (stones-at b) _ _ (inv .stones) end i;
+      liberties = whole (libertiesAt b) _ _ (inv .liberties) end i;
+      stones = whole (stonesAt b) _ _ (inv .stones) end i;
     }
 
 pub seen-of-spec : {M : Type 1} → statement M
@@ -182,9 +179,9 @@ seen-of-spec =
     element-copy-out-index
     index-requires
     nothing-seen-requires
-    mul-chain-seen
-    element-copy-out-chain-seen
-    chain-seen-requires
+    mul-stone-seen
+    element-copy-out-stone-seen
+    stone-seen-requires
     array-write-colours
     mul-liberties
     array-write-liberties
