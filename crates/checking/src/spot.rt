@@ -24,7 +24,9 @@ pub fn spot_at(board: Board, row: u8, column: u8) -> Spot
         return Spot::Off;
     }
     let point = two_to_1dim(board.width, row, column);
-    let Owner::Slot(_) = owner_at(&board.owners, point) else {
+    // A copy of the owners, which is short, in place of one of the board.
+    let owners = board.owners;
+    let Owner::Slot(_) = owner_at(&owners, point) else {
         return Spot::Empty(point);
     };
     Spot::Stone

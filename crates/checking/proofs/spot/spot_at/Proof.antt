@@ -32,14 +32,14 @@ returns-2 c =
     let point = found .before .before .before in
     let start = point .before .before .before in
     spot-empty _ _ _ _ _ _ (point .before .before .is-coord-valid .ensures) (point .before .if1 .left) _ (point .two-to-1dim .ensures)
-    (found-nobody (start .args .t1) (start .pre) _ _ refl _ (found .owner-at .ensures) (c .enum-told2 .given .1))
+    (found-nobody (start .args .board) (start .pre) _ _ refl _ (found .owner-at .ensures) (c .enum-told2 .given .1))
 
 returns-3 : tie.Need-returns-3
 returns-3 c =
     let found = c .before .before in
     let point = found .before .before .before in
     let start = point .before .before .before in
-    let b = start .args .t1 in
+    let b = start .args .board in
     let p = point .two-to-1dim .result in
     let owns = found-slot b (start .pre) p _ refl _ (found .owner-at .ensures) _ (c .enum-told .given .1) in
     let under = found-under _ _ (found .owner-at .ensures) (c .enum-told .given .1) in
