@@ -8,8 +8,7 @@ use checking::superko::superko_told;
 use game::calls::player_of;
 use game::judge::judge_with;
 use game::state::Game;
-use legality::look::near;
-use legality::look::seen_of;
+use legality::look::near_at;
 use points::answers::ACCEPTED;
 use points::answers::DAMAGED;
 use points::answers::OFF_BOARD;
@@ -27,15 +26,8 @@ fn is_superko(game: Game, history: &[u8], point: usize) -> bool
     requires { ⌜ Asking game (length (now history)) point ⌝ }
     ensures { λ r. ⌜ r ≡ superkoOf (viewOf game) (now (history .entry)) point ⌝ }
 {
-    let board = game.board;
-    let height = board.height;
-    let width = board.width;
-    let seen = seen_of(board);
-    let colours = seen.colours;
-    let liberties = seen.liberties;
-    let stones = seen.stones;
     let answer = superko_told(
-        near(&colours, &liberties, &stones, height, width, point),
+        near_at(game.board, point),
         player_of(game.turn),
         is_ko_point(game.ko, point),
         game.records,

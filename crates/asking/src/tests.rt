@@ -6,9 +6,9 @@ use checking::spot::spot_at;
 use game::calls::player_of;
 use game::judge::judge_state;
 use game::state::Game;
+use history::packing::colours_of;
 use legality::eye::is_eye;
-use legality::look::near;
-use legality::look::seen_of;
+use legality::look::near_at;
 use legality::near::is_ko;
 use legality::near::is_suicide;
 use legality::near::will_capture as captures;
@@ -35,20 +35,18 @@ fn holds(game: Game, point: usize, test: Test) -> bool
     requires { ⌜ TrueState game ⌝ }
     ensures { λ r. ⌜ r ≡ tested (viewOf game) point test ⌝ }
 {
-    let board = game.board;
-    let height = board.height;
-    let width = board.width;
+    let height = game.board.height;
+    let width = game.board.width;
     let colour = player_of(game.turn);
-    let seen = seen_of(board);
-    let colours = seen.colours;
-    let liberties = seen.liberties;
-    let stones = seen.stones;
-    let around = near(&colours, &liberties, &stones, height, width, point);
+    let around = near_at(game.board, point);
     match test {
         Test::Capture => captures(around, colour),
         Test::Suicide => is_suicide(around, colour),
         Test::Ko => is_ko(around, is_ko_point(game.ko, point)),
-        Test::Eye => is_eye(&colours, height, width, point, colour),
+        Test::Eye => {
+            let colours = colours_of(game.board);
+            is_eye(&colours, height, width, point, colour)
+        }
     }
 }
 

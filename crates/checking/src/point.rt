@@ -1,4 +1,5 @@
 // What a stone of the player to move is answered at a point: on the board, empty, and the four tests by the flags.
+use crate::refusal::forbids_eye;
 use crate::refusal::told;
 use crate::spot::Spot;
 use crate::spot::spot_at;
@@ -8,12 +9,14 @@ use chains::group::index;
 use game::calls::player_of;
 use game::state::Game;
 use game::state::NO_POINT;
-use legality::look::near;
-use legality::look::seen_of;
+use history::packing::colours_of;
+use legality::look::near_at;
 use points::answers::ACCEPTED;
 use points::answers::OFF_BOARD;
 use points::answers::POINT_NOT_EMPTY;
 use points::answers::SUPER_KO;
+use points::sizes::MAX_AREA;
+use points::stones::EMPTY;
 ghost use mathlib.Core.Path.{_≡_};
 ghost use lib.ListN.{length};
 ghost use Rattle.rules.specs.Records.{recorded};
@@ -40,19 +43,20 @@ fn superko_answer(game: Game, history: &[u8], point: usize) -> u8
     ACCEPTED
 }
 
-// The answer at an empty point of the board.
+// The answer at an empty point of the board. Where no eye is asked for, nothing is read but what stands beside the point.
 fn forbidden_answer(game: Game, history: &[u8], flags: u8, point: usize) -> u8
     requires { ⌜ Asking game (length (now history)) point ⌝ }
     ensures { λ r. ⌜ r ≡ number (forbiddenAnswer (viewOf game) (now (history .entry)) flags point) ⌝ }
 {
     let height = game.board.height;
     let width = game.board.width;
-    let seen = seen_of(game.board);
-    let colours = seen.colours;
-    let liberties = seen.liberties;
-    let stones = seen.stones;
+    let mut colours = [EMPTY; MAX_AREA];
+    if forbids_eye(flags) {
+        let shown = colours_of(game.board);
+        colours = shown;
+    }
     let answer = told(
-        near(&colours, &liberties, &stones, height, width, point),
+        near_at(game.board, point),
         &colours,
         height,
         width,

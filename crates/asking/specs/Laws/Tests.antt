@@ -13,11 +13,8 @@ use Rattle.rules.specs.Answers.{SuperKo, number, refuse}
 use Rattle.rules.specs.Calls.{offBoard, taken, resulting}
 use Rattle.rules.specs.Laws.Lists.{not-both}
 use Rattle.board.specs.Board.{coloursOf}
-use Rattle.board.specs.True.{TrueBoard}
 use Rattle.legality.specs.declared.near.Near.{Near}
-use Rattle.legality.specs.declared.look.Seen.{Seen}
-use Rattle.legality.specs.Near.{besides, catchesMore, caught}
-use Rattle.legality.specs.Seen.{seenOf, nearIn}
+use Rattle.legality.specs.Near.{nearOf, besides, catchesMore, caught}
 use Rattle.queries.specs.declared.goban.TestAnswer.{TestAnswer}
 use Rattle.queries.specs.Goban.{noTest}
 use Rattle.game.specs.declared.state.Game.{Game}
@@ -73,8 +70,7 @@ unfolding refuse number
 refused-says true = refl
 refused-says false = refl
 
-module _ (g : Game) (is : TrueBoard (g .board)) (p : ℕ) (s : Seen) (read : s ≡ seenOf (g .board .height) (g .board .width) (coloursOf (g .board)))
-    (n : Near) (near : n ≡ nearIn (g .board .height) (g .board .width) (s .colours) (s .liberties) (s .stones) p)
+module _ (g : Game) (p : ℕ) (n : Near) (near : n ≡ nearOf (g .board .height) (g .board .width) (coloursOf (g .board)) p)
     (own : ℕ) (mover : own ≡ turnOf (g .turn)) (k : Bool) (at-ko : k ≡ atKo (g .ko) p)
     (t : Told) (told : t ≡ superkoTold (any (caught (other own)) (besides n)) (k && not (any catchesMore (besides n))) (g .records)) where
   abbrev h : ℕ
@@ -87,7 +83,7 @@ module _ (g : Game) (is : TrueBoard (g .board)) (p : ℕ) (s : Seen) (read : s �
   cols = coloursOf (g .board)
 
   by-rules : t ≡ superkoTold (captures h w cols (turnOf (g .turn)) p) (ko h w cols (koOf (g .ko)) p) (g .records)
-  by-rules = told ∙ (λ i. superkoTold (own-captures g is p s read n near own mover i) (its-ko g is p s read n near k at-ko i) (g .records))
+  by-rules = told ∙ (λ i. superkoTold (own-captures g p n near own mover i) (its-ko g p n near k at-ko i) (g .records))
 
   module _ (bytes : List ℕ) where
     abbrev again : Bool

@@ -10,19 +10,16 @@ use Rattle.rules.specs.Lists.{any}
 use Rattle.rules.specs.Points.{neighbours}
 use Rattle.rules.specs.Colours.{empty, other, at}
 use Rattle.rules.specs.Records.{recorded}
-use Rattle.rules.specs.Flags.{SUICIDE, forbids}
+use Rattle.rules.specs.Flags.{SUICIDE, FILLEYE, forbids}
 use Rattle.rules.specs.Tests.{inAtari, suicide, ko, eye, captures, superko}
 use Rattle.rules.specs.Answers.{OffBoard, PointNotEmpty, number}
 use Rattle.rules.specs.Calls.{offBoard, taken, resulting, forbiddenAnswer, pointAnswer}
 use Rattle.rules.specs.Laws.Lists.{and-right, not-yes, not-both}
 use Rattle.board.specs.Board.{coloursOf}
-use Rattle.board.specs.True.{TrueBoard}
 use Rattle.rules.specs.Laws.Answers.{refused-then, passed-then}
 use Rattle.laying.specs.Laying.{Laying}
 use Rattle.legality.specs.declared.near.Near.{Near}
-use Rattle.legality.specs.declared.look.Seen.{Seen}
-use Rattle.legality.specs.Seen.{seenOf, nearIn}
-use Rattle.legality.specs.Near.{besides, saves, catchesMore, caught}
+use Rattle.legality.specs.Near.{nearOf, besides, saves, catchesMore, caught}
 use Rattle.game.specs.declared.state.Game.{Game}
 use Rattle.game.specs.View.{turnOf, koOf, viewOf, TrueState, RoomIn}
 use Rattle.game.specs.Laws.View.{turn-player}
@@ -33,8 +30,8 @@ use Rattle.checking.specs.Spot.{spotOf}
 use Rattle.checking.specs.Told.{atKo, toldOf, settled, undecided}
 use Rattle.checking.specs.Asking.{Asking, Repeating}
 use Rattle.checking.specs.Laws.Spot.{Free, off-outside, stone-taken, empty-free, free-on, free-empty}
-use Rattle.checking.specs.Laws.Near.{own-suicide, its-ko, own-eye, own-captures}
-use Rattle.checking.specs.Laws.Told.{told-settled, told-captures}
+use Rattle.checking.specs.Laws.Near.{own-suicide, its-ko, own-captures}
+use Rattle.checking.specs.Laws.Told.{told-settled, told-eye, told-captures}
 
 -- ---- A capture may be laid
 
@@ -88,12 +85,12 @@ module _ (g : Game) (bytes : List ℕ) (flags r c : ℕ) (s : Spot) (found : s �
 
 -- ---- What the tests tell
 
-module _ (g : Game) (is : TrueBoard (g .board)) (flags p : ℕ) (s : Seen) (read : s ≡ seenOf (g .board .height) (g .board .width) (coloursOf (g .board)))
-    (n : Near) (near : n ≡ nearIn (g .board .height) (g .board .width) (s .colours) (s .liberties) (s .stones) p)
+-- e is what the eye test says, where it is asked
+module _ (g : Game) (flags p : ℕ) (n : Near) (near : n ≡ nearOf (g .board .height) (g .board .width) (coloursOf (g .board)) p)
     (own : ℕ) (mover : own ≡ turnOf (g .turn)) (k : Bool) (at-ko : k ≡ atKo (g .ko) p)
+    (e : Bool) (eyed : forbids flags FILLEYE ≡ true → e ≡ eye (g .board .height) (g .board .width) (coloursOf (g .board)) (turnOf (g .turn)) p)
     (t : Told) (told :
-    t ≡ toldOf flags (not (any (saves own) (besides n))) (k && not (any catchesMore (besides n))) (eye (g .board .height) (g .board .width) (s .colours) own p)
-    (any (caught (other own)) (besides n)) (g .records)) where
+    t ≡ toldOf flags (not (any (saves own) (besides n))) (k && not (any catchesMore (besides n))) e (any (caught (other own)) (besides n)) (g .records)) where
   abbrev h : ℕ
   h = g .board .height
 
@@ -107,9 +104,9 @@ module _ (g : Game) (is : TrueBoard (g .board)) (flags p : ℕ) (s : Seen) (read
       (captures h w cols (turnOf (g .turn)) p) (g .records)
   by-rules =
       told
-      ∙ (λ i.
-      toldOf flags (own-suicide g is p s read n near own mover i) (its-ko g is p s read n near k at-ko i) (own-eye g is p s read n near own mover i)
-      (own-captures g is p s read n near own mover i) (g .records))
+      ∙ (λ i. toldOf flags (own-suicide g p n near own mover i) (its-ko g p n near k at-ko i) e (own-captures g p n near own mover i) (g .records))
+      ∙ told-eye flags (suicide h w cols (turnOf (g .turn)) p) (ko h w cols (koOf (g .ko)) p) (captures h w cols (turnOf (g .turn)) p) (g .records) e
+      (eye h w cols (turnOf (g .turn)) p) eyed
 
   pub told-forbidden : (bytes : List ℕ) → settled t (recorded bytes (g .records) (resulting (viewOf g) p)) ≡ number (forbiddenAnswer (viewOf g) bytes flags p)
   unfolding viewOf forbiddenAnswer superko
@@ -119,5 +116,5 @@ module _ (g : Game) (is : TrueBoard (g .board)) (flags p : ℕ) (s : Seen) (read
       (captures h w cols (turnOf (g .turn)) p) (g .records) (recorded bytes (g .records) (resulting (viewOf g) p))
 
   pub told-repeating : (len : ℕ) → Asking g len p → undecided t ≡ true → Repeating g len p
-  told-repeating len asking e =
-      record { asking = asking; captures = told-captures flags _ _ _ _ (g .records) (ap undecided (sym by-rules) ∙ e) }
+  told-repeating len asking u =
+      record { asking = asking; captures = told-captures flags _ _ _ _ (g .records) (ap undecided (sym by-rules) ∙ u) }

@@ -39,19 +39,27 @@ atKo-point h w cols x p = go (eqb x noPoint)
 
 -- ---- What a true board shows
 
-pub read-shows : (b : Board) → TrueBoard b → (s : Seen) → s ≡ seenOf (b .height) (b .width) (coloursOf b)
-    → Shows (b .height) (b .width) (s .colours) (s .liberties) (s .stones)
-read-shows b is s read =
-    subst (λ (x : Seen). Shows (b .height) (b .width) (x .colours) (x .liberties) (x .stones)) (sym read)
-    (seen-shows (b .height) (b .width) (coloursOf b) (area-fits (is .table .size)))
-
--- ---- The four
-
 pub colours-fit : (b : Board) → TrueBoard b → length (coloursOf b) ≤ maxArea
 colours-fit b is = rw (length-colours b) (area-fits (is .table .size))
 
-module _ (g : Game) (is : TrueBoard (g .board)) (p : ℕ) (s : Seen) (read : s ≡ seenOf (g .board .height) (g .board .width) (coloursOf (g .board)))
-    (n : Near) (near : n ≡ nearIn (g .board .height) (g .board .width) (s .colours) (s .liberties) (s .stones) p) where
+module _ (b : Board) (is : TrueBoard b) (s : Seen) (read : s ≡ seenOf (b .height) (b .width) (coloursOf b)) where
+  pub read-shows : Shows (b .height) (b .width) (s .colours) (s .liberties) (s .stones)
+  read-shows =
+      subst (λ (x : Seen). Shows (b .height) (b .width) (x .colours) (x .liberties) (x .stones)) (sym read)
+      (seen-shows (b .height) (b .width) (coloursOf b) (area-fits (is .table .size)))
+
+  pub read-near : (p : ℕ) → nearIn (b .height) (b .width) (s .colours) (s .liberties) (s .stones) p ≡ nearOf (b .height) (b .width) (coloursOf b) p
+  read-near p =
+      ap (λ (x : Seen). nearIn (b .height) (b .width) (x .colours) (x .liberties) (x .stones) p) read
+      ∙ near-seen (b .height) (b .width) (coloursOf b) (area-fits (is .table .size)) p
+
+  pub read-colours : s .colours ≡ onLargest (coloursOf b)
+  unfolding seenOf onLargest
+  read-colours = ap (λ (x : Seen). x .colours) read
+
+-- ---- The four
+
+module _ (g : Game) (p : ℕ) where
   abbrev h : ℕ
   h = g .board .height
 
@@ -61,26 +69,21 @@ module _ (g : Game) (is : TrueBoard (g .board)) (p : ℕ) (s : Seen) (read : s �
   abbrev cols : List ℕ
   cols = coloursOf (g .board)
 
-  beside : n ≡ nearOf h w cols p
-  beside =
-      near
-      ∙ ap (λ (x : Seen). nearIn h w (x .colours) (x .liberties) (x .stones) p) read
-      ∙ near-seen h w cols (area-fits (is .table .size)) p
+  module _ (n : Near) (near : n ≡ nearOf h w cols p) where
+    pub its-ko : (k : Bool) → k ≡ atKo (g .ko) p → k && not (any catchesMore (besides n)) ≡ ko h w cols (koOf (g .ko)) p
+    its-ko k at-ko =
+        ap (λ (b : Bool). b && not (any catchesMore (besides n))) (at-ko ∙ atKo-point h w cols (g .ko) p) ∙ ko-near h w cols n p near (koOf (g .ko))
 
-  pub its-ko : (k : Bool) → k ≡ atKo (g .ko) p → k && not (any catchesMore (besides n)) ≡ ko h w cols (koOf (g .ko)) p
-  its-ko k at-ko =
-      ap (λ (b : Bool). b && not (any catchesMore (besides n))) (at-ko ∙ atKo-point h w cols (g .ko) p) ∙ ko-near h w cols n p beside (koOf (g .ko))
+    module _ (own : ℕ) (mover : own ≡ turnOf (g .turn)) where
+      pub own-suicide : not (any (saves own) (besides n)) ≡ suicide h w cols (turnOf (g .turn)) p
+      own-suicide = suicide-near h w cols n p near own ∙ ap (λ (c : ℕ). suicide h w cols c p) mover
 
-  module _ (own : ℕ) (mover : own ≡ turnOf (g .turn)) where
-    pub own-suicide : not (any (saves own) (besides n)) ≡ suicide h w cols (turnOf (g .turn)) p
-    own-suicide = suicide-near h w cols n p beside own ∙ ap (λ (c : ℕ). suicide h w cols c p) mover
+      pub own-captures : any (caught (other own)) (besides n) ≡ captures h w cols (turnOf (g .turn)) p
+      own-captures = captures-near h w cols n p near own ∙ ap (λ (c : ℕ). captures h w cols c p) mover
 
-    pub own-eye : eye h w (s .colours) own p ≡ eye h w cols (turnOf (g .turn)) p
-    unfolding seenOf onLargest
-    own-eye =
-        ap (λ (x : Seen). eye h w (x .colours) own p) read
-        ∙ eye-same h w (onLargest cols) cols own (λ q on. at-onLargest cols (colours-fit (g .board) is) q) p
-        ∙ ap (λ (c : ℕ). eye h w cols c p) mover
-
-    pub own-captures : any (caught (other own)) (besides n) ≡ captures h w cols (turnOf (g .turn)) p
-    own-captures = captures-near h w cols n p beside own ∙ ap (λ (c : ℕ). captures h w cols c p) mover
+  pub own-eye : TrueBoard (g .board) → (cs : List ℕ) → cs ≡ onLargest cols → (own : ℕ) → own ≡ turnOf (g .turn)
+      → eye h w cs own p ≡ eye h w cols (turnOf (g .turn)) p
+  own-eye is cs read own mover =
+      ap (λ (x : List ℕ). eye h w x own p) read
+      ∙ eye-same h w (onLargest cols) cols own (λ q on. at-onLargest cols (colours-fit (g .board) is) q) p
+      ∙ ap (λ (c : ℕ). eye h w cols c p) mover

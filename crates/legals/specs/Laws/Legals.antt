@@ -10,6 +10,7 @@ use borrow.Author.Tests.{eqb-true, eq-eqb}
 use Rattle.rules.specs.Lists.{any}
 use Rattle.rules.specs.Points.{area, row, column}
 use Rattle.rules.specs.Colours.{empty, other, at}
+use Rattle.rules.specs.Flags.{FILLEYE, forbids}
 use Rattle.rules.specs.Tests.{eye}
 use Rattle.rules.specs.Records.{recorded}
 use Rattle.rules.specs.Answers as answers
@@ -22,7 +23,6 @@ use Rattle.rules.specs.Laws.Answers.{accepts-zero}
 use Rattle.listing.specs.Laws.Answers.{length-enough}
 use Rattle.board.specs.Board.{coloursOf}
 use Rattle.board.specs.True.{TrueBoard}
-use Rattle.history.specs.Packing.{onLargest}
 use Rattle.history.specs.Laws.Packing.{at-onLargest}
 use Rattle.legality.specs.declared.look.Seen.{Seen}
 use Rattle.legality.specs.declared.near.Near.{Near}
@@ -37,7 +37,7 @@ use Rattle.checking.specs.Told.{atKo, toldOf, settled, undecided}
 use Rattle.checking.specs.Spot.{spotOf}
 use Rattle.checking.specs.Asking.{Asking, Repeating}
 use Rattle.checking.specs.Laws.Spot.{spot-of}
-use Rattle.checking.specs.Laws.Near.{colours-fit}
+use Rattle.checking.specs.Laws.Near.{colours-fit, read-near, read-colours, own-eye}
 use Rattle.checking.specs.Laws.Asking.{stone-answer, empty-answer, told-forbidden, told-repeating}
 use Rattle.legals.specs.Legals.{toldAt, settledFree, refused}
 
@@ -94,10 +94,14 @@ module _ (g : Game) (is : TrueBoard (g .board)) (flags p : ℕ) (on : p < area (
       (atKo (g .ko) p && not (any catchesMore (besides (nearIn h w (s .colours) (s .liberties) (s .stones) p))))
       (eye h w (s .colours) own p) (any (caught (other own)) (besides (nearIn h w (s .colours) (s .liberties) (s .stones) p))) (g .records)
 
+  eyed : forbids flags FILLEYE ≡ true → eye h w (s .colours) own p ≡ eye h w cols (turnOf (g .turn)) p
+  eyed _ = own-eye g p is _ (read-colours (g .board) is s read) own mover
+
   by-colour : (free : Bool) → eqb (at cols p) empty ≡ free → t ≡ cond free tests (Answer (number answers.PointNotEmpty))
-  unfolding toldAt seenOf onLargest
+  unfolding toldAt
   by-colour free e =
-      let shown : at (s .colours) p ≡ at cols p = ap (λ (x : Seen). at (x .colours) p) read ∙ at-onLargest cols (colours-fit (g .board) is) p in
+      let shown : at (s .colours) p ≡ at cols p =
+      ap (λ (cs : List ℕ). at cs p) (read-colours (g .board) is s read) ∙ at-onLargest cols (colours-fit (g .board) is) p in
       told ∙ ap (λ (b : Bool). cond b tests (Answer (number answers.PointNotEmpty))) (ap (λ (k : ℕ). eqb k empty) shown ∙ e)
 
   spot-by : (free : Bool) → eqb (at cols p) empty ≡ free → spotOf h w cols (row w p) (column w p) ≡ cond free (Empty p) Stone
@@ -113,7 +117,7 @@ module _ (g : Game) (is : TrueBoard (g .board)) (flags p : ℕ) (on : p < area (
         ⊎-elim
         (λ y.
         sym (empty-answer g bytes flags (row w p) (column w p) _ refl p (spot-by true y))
-        ∙ sym (told-forbidden g is flags p s read _ refl own mover _ refl t (by-colour true y) bytes))
+        ∙ sym (told-forbidden g flags p _ (read-near (g .board) is s read p) own mover _ refl _ eyed t (by-colour true y) bytes))
         (λ n.
         sym (stone-answer g bytes flags (row w p) (column w p) _ refl (spot-by false n))
         ∙ sym (ap (λ (x : Told). settled x again) (by-colour false n)))
@@ -132,7 +136,7 @@ module _ (g : Game) (is : TrueBoard (g .board)) (flags p : ℕ) (on : p < area (
       ⊎-elim
       (λ y.
       let asking : Asking g n p = record { state = state; room = room; on = on; empty = eqb-true (at cols p) empty y } in
-      told-repeating g is flags p s read _ refl own mover _ refl t (by-colour true y) n asking e)
+      told-repeating g flags p _ (read-near (g .board) is s read p) own mover _ refl _ eyed t (by-colour true y) n asking e)
       (λ f. absurd (not-both e (ap undecided (by-colour false f))))
       (decided (eqb (at cols p) empty))
 

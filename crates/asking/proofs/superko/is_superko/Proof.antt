@@ -1,19 +1,12 @@
 -- `is_superko`: what is told settles to the test, by the records where they decide.
 use mathlib.Core.Path.{_∙_}
-use Rattle.checking.specs.Laws.Near.{read-shows}
 use Rattle.asking.specs.Laws.Tests.{superko-known, superko-again, superko-repeating}
 use borrow.Author.Needs.{needs}
 use Rattle.asking.proofs.superko.is_superko.Statement.{statement}
 use Rattle.asking.proofs.superko.is_superko.Tie as tie
 
-seen-of-requires : tie.Need-seen-of-requires
-seen-of-requires c κs = search needs
-
-near-requires : tie.Need-near-requires
-near-requires c κs =
-    let seen = c .before .before .before .before .before .before in
-    let start = seen .before .before .before in
-    read-shows (start .args .game .board) (start .pre .state .board) _ (seen .seen-of .ensures)
+near-at-requires : tie.Need-near-at-requires
+near-at-requires c κs = search needs
 
 player-of-requires : tie.Need-player-of-requires
 player-of-requires c κs = search needs
@@ -35,9 +28,8 @@ repeats-requires c κs =
     let told = c .before .before in
     let mover = told .before .before in
     let looked = mover .before in
-    let seen = looked .before .before .before .before .before .before .before in
-    let start = seen .before .before .before in
-    superko-repeating (start .args .game) (start .pre .state .board) (start .args .point) _ (seen .seen-of .ensures) _ (looked .near .ensures) _ (mover .player-of .ensures)
+    let start = looked .before .before in
+    superko-repeating (start .args .game) (start .args .point) _ (looked .near-at .ensures) _ (mover .player-of .ensures)
     _ (told .before .is-ko-point .ensures) _ (told .superko-told .ensures) _ (start .pre) (c .enum-told .given .1)
 
 returns : tie.Need-returns
@@ -46,10 +38,9 @@ returns c =
     let told = matched .before .before in
     let mover = told .before .before in
     let looked = mover .before in
-    let seen = looked .before .before .before .before .before .before .before in
-    let start = seen .before .before .before in
+    let start = looked .before .before in
     c .repeats .ensures
-    ∙ superko-again (start .args .game) (start .pre .state .board) (start .args .point) _ (seen .seen-of .ensures) _ (looked .near .ensures) _ (mover .player-of .ensures)
+    ∙ superko-again (start .args .game) (start .args .point) _ (looked .near-at .ensures) _ (mover .player-of .ensures)
     _ (told .before .is-ko-point .ensures) _ (told .superko-told .ensures) (start .args .history .now) (matched .enum-told .given .1)
 
 returns-2 : tie.Need-returns-2
@@ -57,17 +48,15 @@ returns-2 c =
     let told = c .before .before .before in
     let mover = told .before .before in
     let looked = mover .before in
-    let seen = looked .before .before .before .before .before .before .before in
-    let start = seen .before .before .before in
-    superko-known (start .args .game) (start .pre .state .board) (start .args .point) _ (seen .seen-of .ensures) _ (looked .near .ensures) _ (mover .player-of .ensures)
+    let start = looked .before .before in
+    superko-known (start .args .game) (start .args .point) _ (looked .near-at .ensures) _ (mover .player-of .ensures)
     _ (told .before .is-ko-point .ensures) _ (told .superko-told .ensures) (start .args .history .now) _ (c .before .answer .given .1)
 
 pub is-superko-spec : {M : Type 1} → statement M
 is-superko-spec =
     tie.close
     (tie.spec
-    seen-of-requires
-    near-requires
+    near-at-requires
     player-of-requires
     is-ko-point-requires
     superko-told-requires

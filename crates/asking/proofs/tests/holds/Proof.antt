@@ -2,7 +2,7 @@
 use mathlib.Core.Path.{sym, ap, _∙_}
 use Rattle.game.specs.View.{viewOf}
 use Rattle.asking.specs.Tests.{tested}
-use Rattle.checking.specs.Laws.Near.{read-shows, own-captures, own-suicide, its-ko, own-eye}
+use Rattle.checking.specs.Laws.Near.{own-captures, own-suicide, its-ko, own-eye}
 use borrow.Author.Needs.{needs}
 use Rattle.asking.proofs.tests.holds.Statement.{statement}
 use Rattle.asking.proofs.tests.holds.Tie as tie
@@ -10,14 +10,8 @@ use Rattle.asking.proofs.tests.holds.Tie as tie
 player-of-requires : tie.Need-player-of-requires
 player-of-requires c κs = search needs
 
-seen-of-requires : tie.Need-seen-of-requires
-seen-of-requires c κs = search needs
-
-near-requires : tie.Need-near-requires
-near-requires c κs =
-    let seen = c .before .before .before .before .before .before in
-    let start = seen .before .before .before in
-    read-shows (start .args .game .board) (start .pre .board) _ (seen .seen-of .ensures)
+near-at-requires : tie.Need-near-at-requires
+near-at-requires c κs = search needs
 
 enum-told : tie.Need-enum-told
 enum-told c = search needs
@@ -43,6 +37,9 @@ is-ko-requires c κs = search needs
 enum-told-4 : tie.Need-enum-told-4
 enum-told-4 c = search needs
 
+colours-of-requires : tie.Need-colours-of-requires
+colours-of-requires c κs = search needs
+
 is-eye-requires : tie.Need-is-eye-requires
 is-eye-requires c κs = search needs
 
@@ -50,53 +47,50 @@ returns : tie.Need-returns
 unfolding viewOf
 returns c =
     let looked = c .before .before .before in
-    let seen = looked .before .before .before .before .before .before .before in
-    let start = seen .before .before .before in
-    let g = start .args .game in
+    let mover = looked .before in
+    let a = mover .before .args in
     c .will-capture .ensures
-    ∙ own-captures g (start .pre .board) (start .args .point) _ (seen .seen-of .ensures) _ (looked .near .ensures) _ (seen .before .player-of .ensures)
-    ∙ ap (tested (viewOf g) (start .args .point)) (sym (c .before .enum-told .given .1))
+    ∙ own-captures (a .game) (a .point) _ (looked .near-at .ensures) _ (mover .player-of .ensures)
+    ∙ ap (tested (viewOf (a .game)) (a .point)) (sym (c .before .enum-told .given .1))
 
 returns-2 : tie.Need-returns-2
 unfolding viewOf
 returns-2 c =
     let looked = c .before .before .before in
-    let seen = looked .before .before .before .before .before .before .before in
-    let start = seen .before .before .before in
-    let g = start .args .game in
+    let mover = looked .before in
+    let a = mover .before .args in
     c .is-suicide .ensures
-    ∙ own-suicide g (start .pre .board) (start .args .point) _ (seen .seen-of .ensures) _ (looked .near .ensures) _ (seen .before .player-of .ensures)
-    ∙ ap (tested (viewOf g) (start .args .point)) (sym (c .before .enum-told2 .given .1))
+    ∙ own-suicide (a .game) (a .point) _ (looked .near-at .ensures) _ (mover .player-of .ensures)
+    ∙ ap (tested (viewOf (a .game)) (a .point)) (sym (c .before .enum-told2 .given .1))
 
 returns-3 : tie.Need-returns-3
 unfolding viewOf
 returns-3 c =
-    let looked = c .before .before .before .before in
-    let seen = looked .before .before .before .before .before .before .before in
-    let start = seen .before .before .before in
-    let g = start .args .game in
+    let matched = c .before .before in
+    let looked = matched .before .before in
+    let a = looked .before .before .args in
     c .is-ko .ensures
-    ∙ its-ko g (start .pre .board) (start .args .point) _ (seen .seen-of .ensures) _ (looked .near .ensures) _ (c .before .is-ko-point .ensures)
-    ∙ ap (tested (viewOf g) (start .args .point)) (sym (c .before .before .enum-told3 .given .1))
+    ∙ its-ko (a .game) (a .point) _ (looked .near-at .ensures) _ (c .before .is-ko-point .ensures)
+    ∙ ap (tested (viewOf (a .game)) (a .point)) (sym (matched .enum-told3 .given .1))
 
 returns-4 : tie.Need-returns-4
 unfolding viewOf
 returns-4 c =
-    let looked = c .before .before .before .before in
-    let seen = looked .before .before .before .before .before .before .before in
-    let start = seen .before .before .before in
-    let g = start .args .game in
+    let read = c .before .before in
+    let matched = read .before in
+    let mover = matched .before .before .before in
+    let start = mover .before in
+    let a = start .args in
     c .is-eye .ensures
-    ∙ own-eye g (start .pre .board) (start .args .point) _ (seen .seen-of .ensures) _ (looked .near .ensures) _ (seen .before .player-of .ensures)
-    ∙ ap (tested (viewOf g) (start .args .point)) (sym (c .before .before .enum-told4 .given .1))
+    ∙ own-eye (a .game) (a .point) (start .pre .board) _ (read .colours-of .ensures) _ (mover .player-of .ensures)
+    ∙ ap (tested (viewOf (a .game)) (a .point)) (sym (matched .enum-told4 .given .1))
 
 pub holds-spec : {M : Type 1} → statement M
 holds-spec =
     tie.close
     (tie.spec
     player-of-requires
-    seen-of-requires
-    near-requires
+    near-at-requires
     enum-told
     will-capture-requires
     enum-told-2
@@ -105,6 +99,7 @@ holds-spec =
     is-ko-point-requires
     is-ko-requires
     enum-told-4
+    colours-of-requires
     is-eye-requires
     returns
     returns-2

@@ -1,39 +1,71 @@
--- `forbidden_answer`: what the tests tell settles to the answer, by the records where they decide.
+-- `forbidden_answer`: what the tests tell settles to the answer, by the records where they decide; the eye is told where it is asked for.
+use mathlib.Core.Bool.{true}
+use mathlib.Core.Logic.{⊎-elim}
 use mathlib.Core.Path.{_≡_, sym, ap, _∙_}
+use lib.ListN.{length}
 use borrow.Author.Needs.{needs}
+use Rattle.rules.specs.Sizes.{maxArea}
+use Rattle.rules.specs.Flags.{FILLEYE, forbids}
+use Rattle.rules.specs.Tests.{eye}
 use Rattle.rules.specs.Records.{recorded}
 use Rattle.rules.specs.Answers.{number}
 use Rattle.rules.specs.Calls.{resulting, forbiddenAnswer}
-use Rattle.game.specs.View.{viewOf}
+use Rattle.rules.specs.Laws.Lists.{not-both}
+use Rattle.board.specs.Board.{coloursOf}
+use Rattle.history.specs.Packing.{onLargest}
+use Rattle.history.specs.Laws.Packing.{length-onLargest}
+use Rattle.game.specs.View.{turnOf, viewOf}
 use Rattle.checking.specs.declared.superko.Told.{Told}
 use Rattle.checking.specs.Told.{settled, undecided}
-use Rattle.checking.specs.Laws.Near.{read-shows}
+use Rattle.checking.specs.Laws.Near.{own-eye}
 use Rattle.checking.specs.Laws.Asking.{told-forbidden, told-repeating}
 use Rattle.checking.proofs.point.forbidden_answer.Statement.{statement}
 use Rattle.checking.proofs.point.forbidden_answer.Tie as tie
 
+-- the colours, where they are wanted
+wanted : (c : tie.Joined1)
+    → let a = c .before .before .before .args in
+    (length (c .if1 .colours) ≡ maxArea) × (forbids (a .flags) FILLEYE ≡ true → c .if1 .colours ≡ onLargest (coloursOf (a .game .board)))
+wanted c =
+    let asked = c .before .forbids-eye .ensures in
+    ⊎-elim
+    (λ w. let e = w .2 ∙ w .1 .ensures in (ap length e ∙ length-onLargest (coloursOf (c .before .before .before .args .game .board)), λ _. e))
+    (λ w. (ap length (w .1), λ f. absurd (not-both f (sym asked ∙ w .0 .left))))
+    (c .if1 .came)
+
+-- what the eye test says of them
+eyed : (c : tie.After-told)
+    → let looked = c .before .before .before .before in
+    let a = looked .before .before .before .before .args in
+    let h = a .game .board .height in
+    let w = a .game .board .width in
+    forbids (a .flags) FILLEYE ≡ true
+    → eye h w (looked .before .if1 .colours) (c .before .before .player-of .result) (a .point) ≡ eye h w (coloursOf (a .game .board)) (turnOf (a .game .turn)) (a .point)
+eyed c f =
+    let joined = c .before .before .before .before .before in
+    let start = joined .before .before .before in
+    own-eye (start .args .game) (start .args .point) (start .pre .state .board) _ (wanted joined .1 f) _ (c .before .before .player-of .ensures)
+
 -- the answer, once it is known whether the board is recorded
 settles : (c : tie.After-told)
-    → let start = c .before .before .before .before .before .before .before .before .before .before .before .before .before in
-    let a = start .args in
+    → let a = c .before .before .before .before .before .before .before .before .args in
     settled (c .told .result) (recorded (a .history .now) (a .game .records) (resulting (viewOf (a .game)) (a .point)))
     ≡ number (forbiddenAnswer (viewOf (a .game)) (a .history .now) (a .flags) (a .point))
 settles c =
     let mover = c .before .before in
     let looked = mover .before .before in
-    let seen = looked .before .before .before .before .before .before .before in
-    let start = seen .before .before in
-    told-forbidden (start .args .game) (start .pre .state .board) (start .args .flags) (start .args .point) _ (seen .seen-of .ensures) _ (looked .near .ensures)
-    _ (mover .player-of .ensures) _ (c .before .is-ko-point .ensures) _ (c .told .ensures) (start .args .history .now)
+    let a = looked .before .before .before .before .args in
+    told-forbidden (a .game) (a .flags) (a .point) _ (looked .near-at .ensures) _ (mover .player-of .ensures) _ (c .before .is-ko-point .ensures) _ (eyed c)
+    _ (c .told .ensures) (a .history .now)
 
-seen-of-requires : tie.Need-seen-of-requires
-seen-of-requires c κs = search needs
+forbids-eye-requires : tie.Need-forbids-eye-requires
+forbids-eye-requires c κs = search needs
 
-near-requires : tie.Need-near-requires
-near-requires c κs =
-    let seen = c .before .before .before .before .before .before in
-    let start = seen .before .before in
-    read-shows (start .args .game .board) (start .pre .state .board) _ (seen .seen-of .ensures)
+colours-of-requires : tie.Need-colours-of-requires
+colours-of-requires c κs = search needs
+
+near-at-requires : tie.Need-near-at-requires
+near-at-requires c κs = c .before .before .before .pre .state .board
 
 player-of-requires : tie.Need-player-of-requires
 player-of-requires c κs = search needs
@@ -42,7 +74,7 @@ is-ko-point-requires : tie.Need-is-ko-point-requires
 is-ko-point-requires c κs = search needs
 
 told-requires : tie.Need-told-requires
-told-requires c κs = search needs
+told-requires c κs = wanted (c .before .before .before .before) .0
 
 enum-known-answer : tie.Need-enum-known-answer
 enum-known-answer c = search needs
@@ -55,15 +87,15 @@ superko-answer-requires c κs =
     let told = c .before .before in
     let mover = told .before .before in
     let looked = mover .before .before in
-    let seen = looked .before .before .before .before .before .before .before in
-    let start = seen .before .before in
-    told-repeating (start .args .game) (start .pre .state .board) (start .args .flags) (start .args .point) _ (seen .seen-of .ensures) _ (looked .near .ensures)
-    _ (mover .player-of .ensures) _ (told .before .is-ko-point .ensures) _ (told .told .ensures) _ (start .pre) (ap undecided (c .enum-told .given .1))
+    let start = looked .before .before .before .before in
+    let a = start .args in
+    told-repeating (a .game) (a .flags) (a .point) _ (looked .near-at .ensures) _ (mover .player-of .ensures) _ (told .before .is-ko-point .ensures) _ (eyed told)
+    _ (told .told .ensures) _ (start .pre) (ap undecided (c .enum-told .given .1))
 
 returns : tie.Need-returns
 returns c =
     let told = c .before .before .before in
-    let a = told .before .before .before .before .before .before .before .before .before .before .before .before .before .args in
+    let a = told .before .before .before .before .before .before .before .before .args in
     c .superko-answer .ensures
     ∙ ap (λ (t : Told). settled t (recorded (a .history .now) (a .game .records) (resulting (viewOf (a .game)) (a .point)))) (sym (c .before .enum-told .given .1))
     ∙ settles told
@@ -71,15 +103,16 @@ returns c =
 returns-2 : tie.Need-returns-2
 returns-2 c =
     let told = c .before .before .before in
-    let a = told .before .before .before .before .before .before .before .before .before .before .before .before .before .args in
+    let a = told .before .before .before .before .before .before .before .before .args in
     ap (λ (t : Told). settled t (recorded (a .history .now) (a .game .records) (resulting (viewOf (a .game)) (a .point)))) (sym (c .before .answer .given .1)) ∙ settles told
 
 pub forbidden-answer-spec : {M : Type 1} → statement M
 forbidden-answer-spec =
     tie.close
     (tie.spec
-    seen-of-requires
-    near-requires
+    forbids-eye-requires
+    colours-of-requires
+    near-at-requires
     player-of-requires
     is-ko-point-requires
     told-requires
