@@ -1,8 +1,8 @@
--- What the flood of one slot leaves behind: points that it painted, a queue of them, and the liberties beside those it looked at.
+-- What the flood of one slot leaves behind: points that it painted, a queue of them, and the empty points that it saw beside those it looked at.
 use mathlib.Core.Path.{_≡_}
 use mathlib.Core.Bool.{Bool, true, cond, _&&_, _||_}
 use mathlib.Core.List.{List}
-use Prim.Native.Nat.{ℕ, _+_, _≤_, _<_}
+use Prim.Native.Nat.{ℕ, _+_, _*_, _/_, _%_, _≤_, _<_}
 use lib.Dec.{eqb}
 use lib.Bits.{bitXor}
 use lib.ListN.{length, getD, set}
@@ -11,8 +11,33 @@ use Rattle.rules.specs.Lists.{count, below, has, tabulate}
 use Rattle.rules.specs.Points.{area, column}
 use Rattle.rules.specs.Flood.{marked}
 use Rattle.rules.specs.Hash.{entry, stoneHash}
-use Rattle.sets.specs.Liberties.{setOf}
+use Rattle.sets.specs.Liberties.{bitAt}
 use Rattle.board.specs.Judge.{ownerIn, found, shore, hashOf}
+
+-- ---- The points that were seen, one bit each in words
+
+abbrev pub seenWords : ℕ
+seenWords = (maxArea + 63) / 64
+
+unfoldable pub sees : List ℕ → ℕ → Bool
+sees seen q = bitAt (getD seen (q / 64) 0) (q % 64)
+
+-- one point more was seen
+pub record Saw (p : ℕ) (seen seen′ : List ℕ) : Type 0 where
+  pub long : length seen′ ≡ seenWords
+  pub points : (q : ℕ) → sees seen′ q ≡ (sees seen q || eqb q p)
+
+-- the bytes of a liberty set from the i-th on as one number: two, four, and the eight of a word
+abbrev pub twoBytes : List ℕ → ℕ → ℕ
+twoBytes set i = getD set i 0 + getD set (i + 1) 0 * 0x100
+
+abbrev pub fourBytes : List ℕ → ℕ → ℕ
+fourBytes set i = twoBytes set i + twoBytes set (i + 2) * 0x10000
+
+abbrev pub wordOf : List ℕ → ℕ → ℕ
+wordOf set i = fourBytes set i + fourBytes set (i + 4) * 0x100000000
+
+-- ---- One slot
 
 -- which points begin a row, and whether the point behind the last does
 pub record RowStarts (h w : ℕ) (starts : List Bool) : Type 0 where
@@ -40,8 +65,8 @@ pub record Ready (h w s c : ℕ) (notes queue : List ℕ) (tail sum : ℕ) : Typ
 unfoldable pub wanted : ℕ → List ℕ → List ℕ → ℕ → Bool
 wanted s ps notes p = has ps p && eqb (ownerIn notes p) s
 
--- the points were looked at: those that the slot still had are painted and stand in the queue, and the empty ones are in the set
-pub record Looked (h w s c : ℕ) (ps notes queue free : List ℕ) (tail : ℕ) (notes′ queue′ free′ : List ℕ) (tail′ sum′ : ℕ) : Type 0 where
+-- the points were looked at: those that the slot still had are painted and stand in the queue, and the empty ones are seen
+pub record Looked (h w s c : ℕ) (ps notes queue seen : List ℕ) (tail : ℕ) (notes′ queue′ seen′ : List ℕ) (tail′ sum′ : ℕ) : Type 0 where
   pub ready : Ready h w s c notes′ queue′ tail′ sum′
   pub longer : tail ≤ tail′
   pub kept : (k : ℕ) → k < tail → getD queue′ k 0 ≡ getD queue k 0
@@ -51,7 +76,8 @@ pub record Looked (h w s c : ℕ) (ps notes queue free : List ℕ) (tail : ℕ) 
   -- each new entry is one less to find
   pub balance :
       tail′ + count (λ p. eqb (ownerIn notes′ p) s) (below (area h w)) ≡ tail + count (λ p. eqb (ownerIn notes p) s) (below (area h w))
-  pub shored : (f : ℕ → Bool) → free ≡ setOf f → free′ ≡ setOf (λ q. f q || (eqb (ownerIn notes q) slots && has ps q))
+  pub seenLong : length seen′ ≡ seenWords
+  pub shored : (q : ℕ) → sees seen′ q ≡ (sees seen q || (eqb (ownerIn notes q) slots && has ps q))
 
 -- the points that pass the test are painted
 pub record Passed (h w : ℕ) (test : ℕ → Bool) (c : ℕ) (notes notes′ queue′ : List ℕ) (sum′ : ℕ) : Type 0 where
@@ -60,11 +86,11 @@ pub record Passed (h w : ℕ) (test : ℕ → Bool) (c : ℕ) (notes notes′ qu
   pub hashed : sum′ ≡ hashOf h w (ownerIn notes′)
   pub painted : (p : ℕ) → ownerIn notes′ p ≡ cond (test p) (slots + c) (ownerIn notes p)
 
--- the flood is over: what is joined with o by points of the slot is painted, counted, and its empty neighbours are in the set
-pub record Flooded (h w s c o : ℕ) (notes notes′ queue′ free′ : List ℕ) (n sum′ : ℕ) : Type 0 where
+-- the flood is over: what is joined with o by points of the slot is painted, counted, and its empty neighbours are seen
+pub record Flooded (h w s c o : ℕ) (notes notes′ queue′ seen′ : List ℕ) (n sum′ : ℕ) : Type 0 where
   pub passed : Passed h w (found h w (ownerIn notes) s o) c notes notes′ queue′ sum′
   pub counted : n ≡ count (found h w (ownerIn notes) s o) (below (area h w))
-  pub shored : free′ ≡ setOf (shore h w (ownerIn notes) (found h w (ownerIn notes) s o))
+  pub shored : (q : ℕ) → sees seen′ q ≡ shore h w (ownerIn notes) (found h w (ownerIn notes) s o) q
 
 -- ---- One slot after another
 

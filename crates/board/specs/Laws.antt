@@ -14,6 +14,6 @@ pub mod Pairs
 pub mod Tests
 pub mod Judge
 pub mod Slot
-pub mod Bytes
+pub mod Seen
 pub mod NewBoard
 pub mod Verdict

@@ -1,30 +1,29 @@
 // The flood of one slot: from the origin of its chain by points that it owns. Each stone found is noted with its colour, its number goes
-// into the hash, and the empty points beside it into a liberty set. Notes and queue are lent, so that no slot begins with an empty array.
+// into the hash, and the empty points beside it are seen. Notes and queue are lent, so that no slot begins with an empty array.
 use crate::edges::above;
 use crate::edges::below;
 use crate::edges::left;
 use crate::edges::right;
 use crate::goban::NO_CHAIN;
+use crate::seen::SEEN_WORDS;
+use crate::seen::see;
 use chains::group::index;
 use hashing::zobrist::stone_hash;
 use points::coord::Place;
 use points::sizes::HASH_ENTRIES;
-use points::sizes::LIBERTY_BYTES;
 use points::sizes::MAX_AREA;
 use points::sizes::SLOTS;
-use sets::liberties::insert_liberty;
 ghost use mathlib.Core.List.{[], _∷_};
 ghost use mathlib.Core.Path.{_≡_};
 ghost use Prim.Native.Nat.{_<_};
-ghost use lib.ListN.{length};
+ghost use lib.ListN.{length, replicate};
 ghost use Rattle.rules.specs.Sizes.{maxArea, hashEntries};
 ghost use Rattle.rules.specs.Lists.{tabulate, present};
 ghost use Rattle.rules.specs.Points as rules;
 ghost use Rattle.rules.specs.Hash.{entry};
 ghost use Rattle.points.specs.Place.{placeOf, Within};
-ghost use Rattle.sets.specs.Liberties.{LibertySet, none};
 ghost use Rattle.board.specs.Judge.{ownerIn};
-ghost use Rattle.board.specs.Flood.{RowStarts, Queued, Ready, Looked, Flooded};
+ghost use Rattle.board.specs.Flood.{seenWords, RowStarts, Queued, Ready, Looked, Flooded};
 
 // Notes the stone and puts it into the queue. Answers how many stand there then.
 fn push(
@@ -50,7 +49,7 @@ fn look(
     table: &[u64; HASH_ENTRIES],
     notes: &mut [u16; MAX_AREA],
     queue: &mut [u16; MAX_AREA],
-    set: &mut [u8; LIBERTY_BYTES],
+    seen: &mut [u64; SEEN_WORDS],
     hash: &mut u64,
     height: u8,
     width: u8,
@@ -59,15 +58,15 @@ fn look(
     tail: usize,
     place: Place,
 ) -> usize
-    requires { ⌜ (now table ≡ tabulate entry 0 hashEntries) × Ready height width slot colour (now notes) (now queue) tail (now hash) × LibertySet (now set) × Within (rules.area height width) (placeOf place) ⌝ }
-    ensures { λ r. ⌜ Looked height width slot colour (present (placeOf place ∷ [])) (now (notes .entry)) (now (queue .entry)) (now (set .entry)) tail (now (notes .exit)) (now (queue .exit)) (now (set .exit)) r (now (hash .exit)) ⌝ }
+    requires { ⌜ (now table ≡ tabulate entry 0 hashEntries) × Ready height width slot colour (now notes) (now queue) tail (now hash) × (length (now seen) ≡ seenWords) × Within (rules.area height width) (placeOf place) ⌝ }
+    ensures { λ r. ⌜ Looked height width slot colour (present (placeOf place ∷ [])) (now (notes .entry)) (now (queue .entry)) (now (seen .entry)) tail (now (notes .exit)) (now (queue .exit)) (now (seen .exit)) r (now (hash .exit)) ⌝ }
 {
     let Place::At(point) = place else {
         return tail;
     };
     let owner = index(notes[point]);
     if owner == SLOTS {
-        insert_liberty(set, point);
+        see(seen, point);
         return tail;
     }
     if owner != slot {
@@ -81,7 +80,7 @@ fn look_around(
     starts: &[bool; MAX_AREA + 1],
     notes: &mut [u16; MAX_AREA],
     queue: &mut [u16; MAX_AREA],
-    set: &mut [u8; LIBERTY_BYTES],
+    seen: &mut [u64; SEEN_WORDS],
     hash: &mut u64,
     height: u8,
     width: u8,
@@ -90,15 +89,15 @@ fn look_around(
     tail: usize,
     point: usize,
 ) -> usize
-    requires { ⌜ (now table ≡ tabulate entry 0 hashEntries) × RowStarts height width (now starts) × Ready height width slot colour (now notes) (now queue) tail (now hash) × LibertySet (now set) × (point < rules.area height width) ⌝ }
-    ensures { λ r. ⌜ Looked height width slot colour (rules.neighbours height width point) (now (notes .entry)) (now (queue .entry)) (now (set .entry)) tail (now (notes .exit)) (now (queue .exit)) (now (set .exit)) r (now (hash .exit)) ⌝ }
+    requires { ⌜ (now table ≡ tabulate entry 0 hashEntries) × RowStarts height width (now starts) × Ready height width slot colour (now notes) (now queue) tail (now hash) × (length (now seen) ≡ seenWords) × (point < rules.area height width) ⌝ }
+    ensures { λ r. ⌜ Looked height width slot colour (rules.neighbours height width point) (now (notes .entry)) (now (queue .entry)) (now (seen .entry)) tail (now (notes .exit)) (now (queue .exit)) (now (seen .exit)) r (now (hash .exit)) ⌝ }
 {
     let down = below(height, width, point);
     let first = look(
         table,
         notes,
         queue,
-        set,
+        seen,
         hash,
         height,
         width,
@@ -112,7 +111,7 @@ fn look_around(
         table,
         notes,
         queue,
-        set,
+        seen,
         hash,
         height,
         width,
@@ -126,7 +125,7 @@ fn look_around(
         table,
         notes,
         queue,
-        set,
+        seen,
         hash,
         height,
         width,
@@ -140,7 +139,7 @@ fn look_around(
         table,
         notes,
         queue,
-        set,
+        seen,
         hash,
         height,
         width,
@@ -157,7 +156,7 @@ pub fn flood(
     starts: &[bool; MAX_AREA + 1],
     notes: &mut [u16; MAX_AREA],
     queue: &mut [u16; MAX_AREA],
-    set: &mut [u8; LIBERTY_BYTES],
+    seen: &mut [u64; SEEN_WORDS],
     hash: &mut u64,
     height: u8,
     width: u8,
@@ -165,8 +164,8 @@ pub fn flood(
     colour: u8,
     origin: usize,
 ) -> usize
-    requires { ⌜ (now table ≡ tabulate entry 0 hashEntries) × RowStarts height width (now starts) × Ready height width slot colour (now notes) (now queue) 0 (now hash) × (now set ≡ none) × (origin < rules.area height width) × (ownerIn (now notes) origin ≡ slot) ⌝ }
-    ensures { λ r. ⌜ Flooded height width slot colour origin (now (notes .entry)) (now (notes .exit)) (now (queue .exit)) (now (set .exit)) r (now (hash .exit)) ⌝ }
+    requires { ⌜ (now table ≡ tabulate entry 0 hashEntries) × RowStarts height width (now starts) × Ready height width slot colour (now notes) (now queue) 0 (now hash) × (now seen ≡ replicate seenWords 0) × (origin < rules.area height width) × (ownerIn (now notes) origin ≡ slot) ⌝ }
+    ensures { λ r. ⌜ Flooded height width slot colour origin (now (notes .entry)) (now (notes .exit)) (now (queue .exit)) (now (seen .exit)) r (now (hash .exit)) ⌝ }
 {
     let mut tail = push(table, notes, queue, hash, colour, 0, origin);
     let mut head = 0;
@@ -177,7 +176,7 @@ pub fn flood(
             starts,
             notes,
             queue,
-            set,
+            seen,
             hash,
             height,
             width,

@@ -5,4 +5,5 @@ pub mod goban;
 pub mod judge;
 pub mod owners;
 pub mod ring;
+pub mod seen;
 pub mod slot;

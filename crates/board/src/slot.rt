@@ -2,20 +2,17 @@
 use crate::flood::flood;
 use crate::owners::owner_at;
 use crate::ring::ring_good;
+use crate::seen::SEEN_WORDS;
+use crate::seen::liberties_good;
 use chains::group::Chain;
 use chains::group::index;
 use points::sizes::HASH_ENTRIES;
-use points::sizes::LIBERTY_BYTES;
 use points::sizes::MAX_AREA;
 use points::stones::BLACK;
 use points::stones::WHITE;
-use sets::liberties::empty_liberties;
 ghost use mathlib.Core.Bool.{true, _&&_};
 ghost use mathlib.Core.Path.{_≡_};
-ghost use lib.Dec.{ltb};
-ghost use Rattle.rules.specs.Lists as lists;
 ghost use Rattle.chains.specs.Group.{used};
-ghost use Rattle.sets.specs.Liberties.{number};
 ghost use Rattle.board.specs.Judge.{ownerIn, player, found, chainGood, slotGood};
 ghost use Rattle.board.specs.Flood.{Lent, Passed};
 
@@ -23,21 +20,6 @@ fn is_player(colour: u8) -> bool
     ensures { λ r. ⌜ r ≡ player colour ⌝ }
 {
     colour == BLACK || colour == WHITE
-}
-
-// The liberties that a chain keeps are those that were seen, and there is one. With no way out of the loop it is quick.
-fn liberties_good(kept: [u8; LIBERTY_BYTES], seen: [u8; LIBERTY_BYTES]) -> bool
-    ensures { λ r. ⌜ r ≡ lists.same kept seen && ltb 0 (number kept) ⌝ }
-{
-    let mut difference = 0u8;
-    let mut some = 0u8;
-    let mut i = 0;
-    while i < LIBERTY_BYTES {
-        difference = difference | (kept[i] ^ seen[i]);
-        some = some | kept[i];
-        i += 1;
-    }
-    (difference == 0) & (some != 0)
 }
 
 fn chain_good(
@@ -65,13 +47,13 @@ fn chain_good(
     if owner_at(owners, origin) != slot {
         return false;
     }
-    let mut set = empty_liberties();
+    let mut seen = [0u64; SEEN_WORDS];
     let stones = flood(
         table,
         starts,
         notes,
         queue,
-        &mut set,
+        &mut seen,
         hash,
         height,
         width,
@@ -86,7 +68,7 @@ fn chain_good(
         return false;
     }
     let kept = chain.liberties;
-    liberties_good(kept, set)
+    liberties_good(kept, seen)
 }
 
 // A slot whose count is 0 holds no chain, and nothing else is asked.

@@ -8,7 +8,7 @@ use Prim.Native.Nat.{ℕ, _+_, _≤_, _<_}
 use native.Mathlib.Nat.{not-suc-le-zero, lt-of-lt-of-le}
 use native.Mathlib.Omega.{arith}
 use lib.Dec.{eqb}
-use lib.ListN.{getD}
+use lib.ListN.{length, getD}
 use borrow.Author.Count.{below-more}
 use borrow.Author.Tests.{eqb-true, eq-eqb, ne-eqb}
 use Rattle.rules.specs.Sizes.{slots}
@@ -20,10 +20,8 @@ use Rattle.rules.specs.Laws.Lists.{any-yes, any-some, mem-below, below-mem, mem
 use Rattle.rules.specs.Laws.Counting.{count-same, count-or}
 use Rattle.rules.specs.Laws.Points.{neighbours-sym}
 use Rattle.rules.specs.Laws.Reach.{walk-on}
-use Rattle.sets.specs.Liberties.{setOf}
-use Rattle.sets.specs.Laws.Liberties.{setOf-ext}
 use Rattle.board.specs.Judge.{ownerIn, found, shore}
-use Rattle.board.specs.Flood.{Ready, wanted, Looked, Flooded}
+use Rattle.board.specs.Flood.{seenWords, sees, Ready, wanted, Looked, Flooded}
 use Rattle.board.specs.Laws.Lists.{has-one, any-append, any-same, below-next}
 use Rattle.board.specs.Laws.Found.{found-says, found-owner, found-not}
 
@@ -33,7 +31,7 @@ beside h w queue n q = any (λ k. has (neighbours h w (getD queue k 0)) q) (belo
 
 module _ (h w s c o : ℕ) (before : List ℕ) where
   -- after `head` points were looked at
-  pub record Flooding (notes queue set : List ℕ) (tail sum head : ℕ) : Type 0 where
+  pub record Flooding (notes queue seen : List ℕ) (tail sum head : ℕ) : Type 0 where
     pub ready : Ready h w s c notes queue tail sum
     pub within : head ≤ tail
     pub others : (p : ℕ) → ownerIn before p ≢ s → ownerIn notes p ≡ ownerIn before p
@@ -45,12 +43,13 @@ module _ (h w s c o : ℕ) (before : List ℕ) where
     pub spread : (k : ℕ) → k < head → (q : ℕ) → List·Memᴰ q (neighbours h w (getD queue k 0)) → ownerIn notes q ≢ s
     pub balance :
         tail + count (λ p. eqb (ownerIn notes p) s) (below (area h w)) ≡ count (λ p. eqb (ownerIn before p) s) (below (area h w))
-    pub shored : set ≡ setOf (λ q. eqb (ownerIn before q) slots && beside h w queue head q)
+    pub seenLong : length seen ≡ seenWords
+    pub shored : (q : ℕ) → sees seen q ≡ (eqb (ownerIn before q) slots && beside h w queue head q)
 
   -- ---- What a look does to one point
 
-  module _ {ps notes queue set notes′ queue′ set′ : List ℕ} {tail tail′ sum′ : ℕ}
-      (look : Looked h w s c ps notes queue set tail notes′ queue′ set′ tail′ sum′) where
+  module _ {ps notes queue seen notes′ queue′ seen′ : List ℕ} {tail tail′ sum′ : ℕ}
+      (look : Looked h w s c ps notes queue seen tail notes′ queue′ seen′ tail′ sum′) where
     paint-not : slots + c ≢ s
     paint-not z = omega (arith, look .ready .low)
 
@@ -86,11 +85,11 @@ module _ (h w s c o : ℕ) (before : List ℕ) where
   -- ---- The beginning: the origin is looked at
 
   pub flooding-begin :
-      {queue notes′ queue′ set : List ℕ} {tail′ sum′ : ℕ} → ownerIn before o ≡ s → set ≡ setOf (λ q. false)
-      → Looked h w s c (o ∷ []) before queue set 0 notes′ queue′ set tail′ sum′
-      → Flooding notes′ queue′ set tail′ sum′ 0
+      {queue notes′ queue′ seen : List ℕ} {tail′ sum′ : ℕ} → ownerIn before o ≡ s → ((q : ℕ) → sees seen q ≡ false)
+      → Looked h w s c (o ∷ []) before queue seen 0 notes′ queue′ seen tail′ sum′
+      → Flooding notes′ queue′ seen tail′ sum′ 0
   unfolding below
-  flooding-begin {notes′} {queue′} {set} {tail′} e nothing look = record {
+  flooding-begin {notes′} {queue′} {seen} {tail′} e nothing look = record {
     ready = look .ready;
     within = omega arith;
     others = λ p n. ⊎-elim (λ t. absurd (n (was look p t))) (when-not look p) (decided (wanted s (o ∷ []) before p));
@@ -101,7 +100,8 @@ module _ (h w s c o : ℕ) (before : List ℕ) where
     stands = λ p z n. ⊎-elim (look .stands p) (λ f. absurd (n (when-not look p f ∙ z))) (decided (wanted s (o ∷ []) before p));
     spread = λ k l. absurd (not-suc-le-zero l);
     balance = look .balance ∙ omega arith;
-    shored = nothing ∙ setOf-ext _ _ (λ q l. sym (and-false (eqb (ownerIn before q) slots)));
+    seenLong = look .seenLong;
+    shored = λ q. nothing q ∙ sym (and-false (eqb (ownerIn before q) slots));
   }
     where
       first : (k : ℕ) → k < tail′ → getD queue′ k 0 ≡ o
@@ -112,11 +112,11 @@ module _ (h w s c o : ℕ) (before : List ℕ) where
   -- ---- One point more
 
   pub flooding-next :
-      {notes queue set notes′ queue′ set′ : List ℕ} {tail sum head point tail′ sum′ : ℕ}
-      → Flooding notes queue set tail sum head → head < tail → point ≡ getD queue head 0
-      → Looked h w s c (neighbours h w point) notes queue set tail notes′ queue′ set′ tail′ sum′
-      → Flooding notes′ queue′ set′ tail′ sum′ (head + 1)
-  flooding-next {notes} {queue} {set} {notes′} {queue′} {set′} {tail} {head} {point} {tail′} is l at look = record {
+      {notes queue seen notes′ queue′ seen′ : List ℕ} {tail sum head point tail′ sum′ : ℕ}
+      → Flooding notes queue seen tail sum head → head < tail → point ≡ getD queue head 0
+      → Looked h w s c (neighbours h w point) notes queue seen tail notes′ queue′ seen′ tail′ sum′
+      → Flooding notes′ queue′ seen′ tail′ sum′ (head + 1)
+  flooding-next {notes} {queue} {seen} {notes′} {queue′} {seen′} {tail} {head} {point} {tail′} is l at look = record {
     ready = look .ready;
     within = omega (arith, look .longer);
     others = λ p n. when-not look p (unwanted p n) ∙ is .others p n;
@@ -133,12 +133,13 @@ module _ (h w s c o : ℕ) (before : List ℕ) where
     spread = below-more Spread head (λ k m q i. stays look q (is .spread k m q (old-beside k (omega (arith, is .within)) q i)))
         (λ q i. done look q (subst (λ (x : ℕ). List·Memᴰ q (neighbours h w x)) (sym at) (old-beside head l q i)));
     balance = look .balance ∙ is .balance;
-    shored =
-        look .shored _ (is .shored)
-        ∙ setOf-ext _ _ (λ q m.
-        ap (λ (t : Bool). (eqb (ownerIn before q) slots && beside h w queue head q) || (t && has (neighbours h w point) q)) (empty-kept q)
+    seenLong = look .seenLong;
+    shored = λ q.
+        look .shored q
+        ∙ ap (λ (t : Bool). t || (eqb (ownerIn notes q) slots && has (neighbours h w point) q)) (is .shored q)
+        ∙ ap (λ (t : Bool). (eqb (ownerIn before q) slots && beside h w queue head q) || (t && has (neighbours h w point) q)) (empty-kept q)
         ∙ sym (and-or-distrib-left (eqb (ownerIn before q) slots) (beside h w queue head q) (has (neighbours h w point) q))
-        ∙ ap (λ (t : Bool). eqb (ownerIn before q) slots && t) (sym (one-more q)));
+        ∙ ap (λ (t : Bool). eqb (ownerIn before q) slots && t) (sym (one-more q));
   }
     where
       unwanted : (p : ℕ) → ownerIn before p ≢ s → wanted s (neighbours h w point) notes p ≡ false
@@ -181,7 +182,7 @@ module _ (h w s c o : ℕ) (before : List ℕ) where
 
   -- ---- The end: all that is in the queue was looked at
 
-  module _ {notes queue set : List ℕ} {tail sum head : ℕ} (on : o < area h w) (is : Flooding notes queue set tail sum head) (looked : tail ≤ head) where
+  module _ {notes queue seen : List ℕ} {tail sum head : ℕ} (on : o < area h w) (is : Flooding notes queue seen tail sum head) (looked : tail ≤ head) where
     -- what is painted is painted with all its kin, so all along a walk
     along : {x y : ℕ} → Walk (neighbours h w) (ownerIn before) s x y → ownerIn notes x ≢ s → ownerIn notes y ≢ s
     along (here e) n = n
@@ -247,10 +248,10 @@ module _ (h w s c o : ℕ) (before : List ℕ) where
             any-yes (λ k. has (neighbours h w (getD queue k 0)) q) (mem-below head k (omega arith))
             (mem-has (subst (λ (z : ℕ). List·Memᴰ q (neighbours h w z)) (sym e) (neighbours-sym h w q x m)))
 
-    pub flooding-end : Flooded h w s c o before notes queue set tail sum
+    pub flooding-end : Flooded h w s c o before notes queue seen tail sum
     unfolding shore
     flooding-end = record {
       passed = record { notesLong = is .ready .notesLong; queueLong = is .ready .queueLong; hashed = is .ready .hashed; painted = paint };
       counted = counted;
-      shored = is .shored ∙ setOf-ext _ _ (λ q l. ap (λ (t : Bool). eqb (ownerIn before q) slots && t) (shore-all q));
+      shored = λ q. is .shored q ∙ ap (λ (t : Bool). eqb (ownerIn before q) slots && t) (shore-all q);
     }

@@ -3,15 +3,16 @@ use mathlib.Core.Path.{_≡_, refl, ap, subst, fun-ext}
 use mathlib.Core.Bool.{Bool, true, false, _&&_}
 use mathlib.Core.List.{[], _∷_, List·Memᴰ, List·Memᴰ·head as head, List·Memᴰ·eq-of-singleton as eq-of-singleton}
 use mathlib.Core.Logic.{_↔_, _≢_}
-use Prim.Native.Nat.{ℕ, _<_}
+use Prim.Native.Nat.{ℕ, _≤_, _<_}
+use native.Mathlib.Omega.{arith}
 use lib.Dec.{eqb}
 use Rattle.rules.specs.Sizes.{slots}
 use Rattle.rules.specs.Lists.{any}
 use Rattle.rules.specs.Points.{area, neighbours}
 use Rattle.rules.specs.Reach.{Walk, here, step}
 use Rattle.rules.specs.Flood.{flooded, marked}
-use Rattle.rules.specs.Laws.Lists.{not-yes}
-use Rattle.rules.specs.Laws.Points.{neighbours-on, neighbours-few}
+use Rattle.rules.specs.Laws.Lists.{and-right, not-yes, any-some}
+use Rattle.rules.specs.Laws.Points.{neighbours-on, neighbours-from, neighbours-few}
 use Rattle.rules.specs.Laws.Reach.{walk-last}
 use Rattle.rules.specs.Laws.Run.{flooded-marks}
 use Rattle.rules.specs.Laws.Flood.{eqb-means}
@@ -55,3 +56,13 @@ module _ (h w : ℕ) where
   pub shore-same : (own own′ : ℕ → ℕ) (f : ℕ → Bool) → ((q : ℕ) → eqb (own q) slots ≡ eqb (own′ q) slots) → shore h w own f ≡ shore h w own′ f
   unfolding shore
   shore-same own own′ f same = fun-ext (λ q. ap (λ (t : Bool). t && any f (neighbours h w q)) (same q))
+
+  -- a point off the board has nothing beside it
+  pub shore-off : (own : ℕ → ℕ) (f : ℕ → Bool) (q : ℕ) → area h w ≤ q → shore h w own f q ≡ false
+  unfolding shore
+  shore-off own f q off =
+      not-yes
+      (λ t.
+      let (x, m, y) = any-some f (neighbours h w q) (and-right (eqb (own q) slots) _ t) in
+      let on = neighbours-from h w q x m in
+      omega arith)

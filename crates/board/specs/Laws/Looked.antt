@@ -21,10 +21,8 @@ use Rattle.rules.specs.Laws.Lists.{and-left, and-right, and-both, or-cases, or-
 use Rattle.rules.specs.Laws.Lists.{length-tabulate, getD-tabulate-zero, mem-below}
 use Rattle.rules.specs.Laws.Counting.{count-same, count-or, count-equal, below-distinct}
 use Rattle.rules.specs.Laws.Hash.{hash-put}
-use Rattle.sets.specs.Liberties.{setOf, LibertySet, added, has as libertyHas}
-use Rattle.sets.specs.Laws.Liberties.{setOf-ext, setOf-is, setOf-has, added-setOf}
 use Rattle.board.specs.Judge.{ownerIn, hashOf}
-use Rattle.board.specs.Flood.{Queued, Ready, wanted, Looked}
+use Rattle.board.specs.Flood.{seenWords, sees, Saw, Queued, Ready, wanted, Looked}
 use Rattle.board.specs.Laws.Lists.{has-append, has-one}
 
 -- ---- What the slot wants
@@ -41,10 +39,29 @@ wanted-one s notes q p e =
     ap (λ (t : Bool). t && eqb (ownerIn notes p) s) (has-one q p)
     ∙ ⊎-elim (λ (same : p ≡ q). rw (same, eq-eqb q q refl, eq-eqb (ownerIn notes q) s e)) (λ n. rw (ne-eqb p q n)) (equal-or-not p q)
 
+-- ---- What is seen
+
+-- a stone is not
+stone-unseen : (notes : List ℕ) (q : ℕ) → ownerIn notes q ≢ slots → (b : Bool) (x : ℕ) → b ≡ (b || (eqb (ownerIn notes x) slots && has (q ∷ []) x))
+stone-unseen notes q stone b x =
+    sym
+    (ap (λ (t : Bool). b || (eqb (ownerIn notes x) slots && t)) (has-one q x)
+    ∙ ⊎-elim (λ (same : x ≡ q). rw (same, ne-eqb (ownerIn notes q) slots stone) (or-false b))
+    (λ n. rw (ne-eqb x q n) (ap (λ (t : Bool). b || t) (and-false (eqb (ownerIn notes x) slots)) ∙ or-false b))
+    (equal-or-not x q))
+
+-- an empty point is
+empty-seen : (notes : List ℕ) (q : ℕ) → ownerIn notes q ≡ slots → (x : ℕ) → eqb x q ≡ (eqb (ownerIn notes x) slots && has (q ∷ []) x)
+empty-seen notes q vacant x =
+    ⊎-elim
+    (λ (same : x ≡ q). rw (same, has-one q q, eq-eqb q q refl, eq-eqb (ownerIn notes q) slots vacant))
+    (λ n. rw (has-one q x, ne-eqb x q n) (sym (and-false (eqb (ownerIn notes x) slots))))
+    (equal-or-not x q)
+
 -- ---- At no point, and at one that the slot does not want
 
-module _ {h w s c : ℕ} {notes queue : List ℕ} {tail hash : ℕ} (is : Ready h w s c notes queue tail hash) (set : List ℕ) where
-  pub looked-none : Looked h w s c [] notes queue set tail notes queue set tail hash
+module _ {h w s c : ℕ} {notes queue : List ℕ} {tail hash : ℕ} (is : Ready h w s c notes queue tail hash) (seen : List ℕ) (long : length seen ≡ seenWords) where
+  pub looked-none : Looked h w s c [] notes queue seen tail notes queue seen tail hash
   unfolding wanted has
   looked-none = record {
     ready = is;
@@ -54,7 +71,8 @@ module _ {h w s c : ℕ} {notes queue : List ℕ} {tail hash : ℕ} (is : Ready 
     taken = λ k l m. absurd (omega arith);
     stands = λ p t. absurd (not-both t refl);
     balance = refl;
-    shored = λ f e. e ∙ setOf-ext f _ (λ q l. sym (ap (λ (t : Bool). f q || t) (and-false (eqb (ownerIn notes q) slots)) ∙ or-false (f q)));
+    seenLong = long;
+    shored = λ q. sym (ap (λ (t : Bool). sees seen q || t) (and-false (eqb (ownerIn notes q) slots)) ∙ or-false (sees seen q));
   }
 
   module _ (q : ℕ) (other : ownerIn notes q ≢ s) where
@@ -64,12 +82,12 @@ module _ {h w s c : ℕ} {notes queue : List ℕ} {tail hash : ℕ} (is : Ready 
         ap (λ (t : Bool). t && eqb (ownerIn notes p) s) (has-one q p)
         ∙ ⊎-elim (λ (same : p ≡ q). rw (same, ne-eqb (ownerIn notes q) s other) (and-false (eqb q q))) (λ n. rw (ne-eqb p q n)) (equal-or-not p q)
 
-    -- whatever the set then is, if it has the point exactly where that is empty
+    -- whatever is then seen, if the point is exactly where it is empty
     looked-kept :
-        (set′ : List ℕ)
-        → ((f : ℕ → Bool) → set ≡ setOf f → set′ ≡ setOf (λ x. f x || (eqb (ownerIn notes x) slots && has (q ∷ []) x)))
-        → Looked h w s c (q ∷ []) notes queue set tail notes queue set′ tail hash
-    looked-kept set′ shored = record {
+        {seen′ : List ℕ} → length seen′ ≡ seenWords
+        → ((x : ℕ) → sees seen′ x ≡ (sees seen x || (eqb (ownerIn notes x) slots && has (q ∷ []) x)))
+        → Looked h w s c (q ∷ []) notes queue seen tail notes queue seen′ tail hash
+    looked-kept long′ shored = record {
       ready = is;
       longer = le-refl tail;
       kept = λ k l. refl;
@@ -77,33 +95,15 @@ module _ {h w s c : ℕ} {notes queue : List ℕ} {tail hash : ℕ} (is : Ready 
       taken = λ k l m. absurd (omega arith);
       stands = λ p t. absurd (not-both t (never p));
       balance = refl;
+      seenLong = long′;
       shored = shored;
     }
 
-    pub looked-past : ownerIn notes q ≢ slots → Looked h w s c (q ∷ []) notes queue set tail notes queue set tail hash
-    looked-past stone =
-        looked-kept set
-        (λ f e.
-        e
-        ∙ setOf-ext f _ (λ x l.
-        sym
-        (ap (λ (t : Bool). f x || (eqb (ownerIn notes x) slots && t)) (has-one q x)
-        ∙ ⊎-elim (λ (same : x ≡ q). rw (same, ne-eqb (ownerIn notes q) slots stone) (or-false (f q)))
-        (λ n. rw (ne-eqb x q n) (ap (λ (t : Bool). f x || t) (and-false (eqb (ownerIn notes x) slots)) ∙ or-false (f x)))
-        (equal-or-not x q))))
+    pub looked-past : ownerIn notes q ≢ slots → Looked h w s c (q ∷ []) notes queue seen tail notes queue seen tail hash
+    looked-past stone = looked-kept long (λ x. stone-unseen notes q stone (sees seen x) x)
 
-    pub looked-empty : q < maxArea → ownerIn notes q ≡ slots → Looked h w s c (q ∷ []) notes queue set tail notes queue (added set q) tail hash
-    looked-empty on vacant =
-        looked-kept (added set q)
-        (λ f e.
-        ap (λ (l : List ℕ). added l q) e ∙ added-setOf f q ∙ setOf-ext _ _ (λ x l. ap (λ (t : Bool). f x || t) (each x)))
-      where
-        each : (x : ℕ) → (eqb x q && ltb q maxArea) ≡ (eqb (ownerIn notes x) slots && has (q ∷ []) x)
-        each x =
-            ⊎-elim
-            (λ (same : x ≡ q). rw (same, has-one q q, eq-eqb q q refl, eq-eqb (ownerIn notes q) slots vacant, lt-ltb q maxArea on))
-            (λ n. rw (has-one q x, ne-eqb x q n) (sym (and-false (eqb (ownerIn notes x) slots))))
-            (equal-or-not x q)
+    pub looked-empty : {seen′ : List ℕ} → ownerIn notes q ≡ slots → Saw q seen seen′ → Looked h w s c (q ∷ []) notes queue seen tail notes queue seen′ tail hash
+    looked-empty vacant saw = looked-kept (saw .long) (λ x. saw .points x ∙ ap (λ (t : Bool). sees seen x || t) (empty-seen notes q vacant x))
 
 -- ---- At a point that the slot wants
 
@@ -170,8 +170,9 @@ module _ {h w s c : ℕ} {notes queue : List ℕ} {tail sum : ℕ} (is : Ready h
       (getD-tabulate-zero (λ p. ownerIn notes p - slots) (area h w) q empty on ∙ omega (arith, is .low)))
 
   pub looked-new :
-      (set′ : List ℕ) → Looked h w s c (q ∷ []) notes queue set′ tail (set notes q (slots + c)) (set queue tail q) set′ (tail + 1) (bitXor sum (stoneHash q c))
-  looked-new set′ = record {
+      (seen : List ℕ) → length seen ≡ seenWords
+      → Looked h w s c (q ∷ []) notes queue seen tail (set notes q (slots + c)) (set queue tail q) seen (tail + 1) (bitXor sum (stoneHash q c))
+  looked-new seen long = record {
     ready = record {
       low = is .low;
       coloured = is .coloured;
@@ -194,14 +195,8 @@ module _ {h w s c : ℕ} {notes queue : List ℕ} {tail sum : ℕ} (is : Ready h
         ∙ ap (wanted s (q ∷ []) notes) stands-here ∙ wanted-one s notes q q e ∙ eq-eqb q q refl;
     stands = λ p t. (tail, omega arith, stands-here ∙ sym (eqb-true p q (sym (wanted-one s notes q p e) ∙ t)));
     balance = let one = left in omega arith;
-    shored = λ f z.
-        z
-        ∙ setOf-ext f _ (λ x l.
-        sym
-        (ap (λ (t : Bool). f x || (eqb (ownerIn notes x) slots && t)) (has-one q x)
-        ∙ ⊎-elim (λ (same : x ≡ q). rw (same, ne-eqb (ownerIn notes q) slots (λ v. omega (arith, is .low))) (or-false (f q)))
-        (λ n. rw (ne-eqb x q n) (ap (λ (t : Bool). f x || t) (and-false (eqb (ownerIn notes x) slots)) ∙ or-false (f x)))
-        (equal-or-not x q)));
+    seenLong = long;
+    shored = λ x. stone-unseen notes q (λ v. omega (arith, is .low)) (sees seen x) x;
   }
     where
       stands-here : getD (set queue tail q) tail 0 ≡ q
@@ -209,9 +204,9 @@ module _ {h w s c : ℕ} {notes queue : List ℕ} {tail sum : ℕ} (is : Ready h
 
 -- ---- One look after another
 
-module _ {h w s c : ℕ} {xs ys notes notes′ notes″ queue queue′ queue″ set set′ set″ : List ℕ} {tail tail′ tail″ sum′ sum″ : ℕ}
-    (a : Looked h w s c xs notes queue set tail notes′ queue′ set′ tail′ sum′)
-    (b : Looked h w s c ys notes′ queue′ set′ tail′ notes″ queue″ set″ tail″ sum″) where
+module _ {h w s c : ℕ} {xs ys notes notes′ notes″ queue queue′ queue″ seen seen′ seen″ : List ℕ} {tail tail′ tail″ sum′ sum″ : ℕ}
+    (a : Looked h w s c xs notes queue seen tail notes′ queue′ seen′ tail′ sum′)
+    (b : Looked h w s c ys notes′ queue′ seen′ tail′ notes″ queue″ seen″ tail″ sum″) where
   painted-not : slots + c ≢ s
   painted-not z = omega (arith, a .ready .low)
 
@@ -251,7 +246,7 @@ module _ {h w s c : ℕ} {xs ys notes notes′ notes″ queue queue′ queue″ 
       second : wanted s xs notes q ≡ false → eqb (ownerIn notes′ q) slots ≡ eqb (ownerIn notes q) slots
       second f = ap (λ (n : ℕ). eqb n slots) (a .painted q ∙ ap (λ (t : Bool). cond t (slots + c) (ownerIn notes q)) f)
 
-  pub looked-then : Looked h w s c (xs ++ ys) notes queue set tail notes″ queue″ set″ tail″ sum″
+  pub looked-then : Looked h w s c (xs ++ ys) notes queue seen tail notes″ queue″ seen″ tail″ sum″
   looked-then = record {
     ready = b .ready;
     longer = le-trans (a .longer) (b .longer);
@@ -264,12 +259,13 @@ module _ {h w s c : ℕ} {xs ys notes notes′ notes″ queue queue′ queue″ 
     taken = λ k l m. ⊎-elim (old k l) (new k m) (below-or-not k tail′);
     stands = λ p t. ⊎-elim (b .stands p) (λ u. let (k, l, e) = a .stands p u in (k, lt-of-lt-of-le l (b .longer), b .kept k l ∙ e)) (or-cases _ _ (sym (wanted-then p) ∙ t));
     balance = b .balance ∙ a .balance;
-    shored = λ f e.
-        b .shored _ (a .shored f e)
-        ∙ setOf-ext _ _ (λ q l.
-        ap (λ (t : Bool). (f q || (eqb (ownerIn notes q) slots && has xs q)) || (t && has ys q)) (empty-kept q)
-        ∙ both (f q) (eqb (ownerIn notes q) slots) (has xs q) (has ys q)
-        ∙ ap (λ (t : Bool). f q || (eqb (ownerIn notes q) slots && t)) (sym (has-append xs ys q)));
+    seenLong = b .seenLong;
+    shored = λ q.
+        b .shored q
+        ∙ ap (λ (t : Bool). t || (eqb (ownerIn notes′ q) slots && has ys q)) (a .shored q)
+        ∙ ap (λ (t : Bool). (sees seen q || (eqb (ownerIn notes q) slots && has xs q)) || (t && has ys q)) (empty-kept q)
+        ∙ both (sees seen q) (eqb (ownerIn notes q) slots) (has xs q) (has ys q)
+        ∙ ap (λ (t : Bool). sees seen q || (eqb (ownerIn notes q) slots && t)) (sym (has-append xs ys q));
   }
     where
       old : (k : ℕ) → tail ≤ k → k < tail′ → wanted s (xs ++ ys) notes (getD queue″ k 0) ≡ true
@@ -285,18 +281,12 @@ module _ {h w s c : ℕ} {xs ys notes notes′ notes″ queue queue′ queue″ 
       both false true x y = refl
       both false false x y = refl
 
--- what was a set still is one
-pub looked-set :
-    {h w s c : ℕ} {ps notes queue set notes′ queue′ set′ : List ℕ} {tail tail′ sum′ : ℕ} → Looked h w s c ps notes queue set tail notes′ queue′ set′ tail′ sum′
-    → LibertySet set → LibertySet set′
-looked-set {set} look is = subst LibertySet (sym (look .shored (libertyHas set) (sym (setOf-has set is)))) (setOf-is _)
-
 -- as the code pushes
 pub looked-pushed :
-    {h w s c : ℕ} {notes queue notes′ queue′ : List ℕ} {tail sum tail′ sum′ : ℕ} (free : List ℕ) → Ready h w s c notes queue tail sum
+    {h w s c : ℕ} {notes queue notes′ queue′ : List ℕ} {tail sum tail′ sum′ : ℕ} (seen : List ℕ) → length seen ≡ seenWords → Ready h w s c notes queue tail sum
     → {q : ℕ} → q < area h w → ownerIn notes q ≡ s → Queued c q notes queue tail sum notes′ queue′ tail′ sum′
-    → Looked h w s c (q ∷ []) notes queue free tail notes′ queue′ free tail′ sum′
-looked-pushed free is {q} on e push = rw (push .noted, push .queued, push .counted, push .hashed) (looked-new is q on e free)
+    → Looked h w s c (q ∷ []) notes queue seen tail notes′ queue′ seen tail′ sum′
+looked-pushed seen long is {q} on e push = rw (push .noted, push .queued, push .counted, push .hashed) (looked-new is q on e seen long)
 
 -- ---- At the four sides of a point
 
@@ -312,17 +302,17 @@ four (some x) (some y) (some z) d = refl
 
 pub looked-around :
     (h w p : ℕ) {s c tail tail₁ tail₂ tail₃ tail₄ sum₁ sum₂ sum₃ sum₄ : ℕ} {a b d e : Option ℕ}
-    {notes queue free notes₁ queue₁ free₁ notes₂ queue₂ free₂ notes₃ queue₃ free₃ notes₄ queue₄ free₄ : List ℕ}
+    {notes queue seen notes₁ queue₁ seen₁ notes₂ queue₂ seen₂ notes₃ queue₃ seen₃ notes₄ queue₄ seen₄ : List ℕ}
     → a ≡ towards h w p forth stay → b ≡ towards h w p back stay → d ≡ towards h w p stay forth → e ≡ towards h w p stay back
-    → Looked h w s c (present (a ∷ [])) notes queue free tail notes₁ queue₁ free₁ tail₁ sum₁
-    → Looked h w s c (present (b ∷ [])) notes₁ queue₁ free₁ tail₁ notes₂ queue₂ free₂ tail₂ sum₂
-    → Looked h w s c (present (d ∷ [])) notes₂ queue₂ free₂ tail₂ notes₃ queue₃ free₃ tail₃ sum₃
-    → Looked h w s c (present (e ∷ [])) notes₃ queue₃ free₃ tail₃ notes₄ queue₄ free₄ tail₄ sum₄
-    → Looked h w s c (neighbours h w p) notes queue free tail notes₄ queue₄ free₄ tail₄ sum₄
+    → Looked h w s c (present (a ∷ [])) notes queue seen tail notes₁ queue₁ seen₁ tail₁ sum₁
+    → Looked h w s c (present (b ∷ [])) notes₁ queue₁ seen₁ tail₁ notes₂ queue₂ seen₂ tail₂ sum₂
+    → Looked h w s c (present (d ∷ [])) notes₂ queue₂ seen₂ tail₂ notes₃ queue₃ seen₃ tail₃ sum₃
+    → Looked h w s c (present (e ∷ [])) notes₃ queue₃ seen₃ tail₃ notes₄ queue₄ seen₄ tail₄ sum₄
+    → Looked h w s c (neighbours h w p) notes queue seen tail notes₄ queue₄ seen₄ tail₄ sum₄
 unfolding neighbours sides
-looked-around h w p {s} {c} {tail} {tail₄} {sum₄} {a} {b} {d} {e} {notes} {queue} {free} {notes₄} {queue₄} {free₄} down up east west first second third last =
+looked-around h w p {s} {c} {tail} {tail₄} {sum₄} {a} {b} {d} {e} {notes} {queue} {seen} {notes₄} {queue₄} {seen₄} down up east west first second third last =
     let sides-are : present (a ∷ b ∷ d ∷ e ∷ [])
     ≡ present (towards h w p forth stay ∷ towards h w p back stay ∷ towards h w p stay forth ∷ towards h w p stay back ∷ []) =
     λ i. present (down i ∷ up i ∷ east i ∷ west i ∷ []) in
-    subst (λ (ps : List ℕ). Looked h w s c ps notes queue free tail notes₄ queue₄ free₄ tail₄ sum₄)
+    subst (λ (ps : List ℕ). Looked h w s c ps notes queue seen tail notes₄ queue₄ seen₄ tail₄ sum₄)
     (four a b d e ∙ sides-are) (looked-then (looked-then (looked-then first second) third) last)

@@ -1,28 +1,29 @@
 -- `flood` meets its contract: whatever the notes were before the origin was pushed, the flood goes on from there. The measure is what is
 -- left of the points, since none is twice in the queue.
-use mathlib.Core.Path.{sym, subst}
+use mathlib.Core.Path.{ap, _∙_}
 use mathlib.Core.List.{List}
 use Prim.Native.Nat.{ℕ, _<_, _-_}
 use native.Mathlib.Omega.{arith}
+use lib.ListN.{length, length-replicate}
 use Rattle.rules.specs.Sizes.{maxArea}
 use Rattle.rules.specs.Points.{area}
-use Rattle.sets.specs.Liberties.{LibertySet, none}
-use Rattle.sets.specs.Laws.Liberties.{setOf-is}
 use Rattle.board.specs.Judge.{ownerIn}
+use Rattle.board.specs.Flood.{seenWords, sees}
 use Rattle.board.specs.Laws.Found.{found-says, found-on}
 use Rattle.board.specs.Laws.Looked.{looked-pushed}
+use Rattle.board.specs.Laws.Seen.{none-seen}
 use Rattle.board.specs.Laws.Flooding.{Flooding, flooding-begin, flooding-next, flooding-end}
 use borrow.Author.Needs.{needs}
 use Rattle.board.proofs.flood.flood.Statement.{statement}
 use Rattle.board.proofs.flood.flood.Tie as tie
 
 abbrev Inv-loop : tie.InvT-loop
-Inv-loop table starts notes₀ queue₀ set₀ hash₀ height width slot colour origin tail₀ head₀ notes queue set hash tail head =
-    (before : List ℕ) → Flooding height width slot colour origin before notes₀ queue₀ set₀ tail₀ hash₀ 0
-    → Flooding height width slot colour origin before notes queue set tail hash head
+Inv-loop table starts notes₀ queue₀ seen₀ hash₀ height width slot colour origin tail₀ head₀ notes queue seen hash tail head =
+    (before : List ℕ) → Flooding height width slot colour origin before notes₀ queue₀ seen₀ tail₀ hash₀ 0
+    → Flooding height width slot colour origin before notes queue seen tail hash head
 
 abbrev μ-loop : tie.MeasureT-loop
-μ-loop table starts notes₀ queue₀ set₀ hash₀ height width slot colour origin tail₀ head₀ notes queue set hash tail head = maxArea - head
+μ-loop table starts notes₀ queue₀ seen₀ hash₀ height width slot colour origin tail₀ head₀ notes queue seen hash tail head = maxArea - head
 
 abbrev start : (c : tie.After-push Inv-loop μ-loop) → tie.Start Inv-loop μ-loop
 start c = c .before .before .before .before
@@ -30,14 +31,13 @@ start c = c .before .before .before .before
 -- the flood so far
 flooding : (c : tie.At-loop Inv-loop μ-loop)
     → let a = start (c .before) .args in
-    Flooding (a .height) (a .width) (a .slot) (a .colour) (a .origin) (a .notes .now) (c .loop .notes) (c .loop .queue) (c .loop .set) (c .loop .tail) (c .loop .hash) (c .loop .head)
-unfolding none
+    Flooding (a .height) (a .width) (a .slot) (a .colour) (a .origin) (a .notes .now) (c .loop .notes) (c .loop .queue) (c .loop .seen) (c .loop .tail) (c .loop .hash) (c .loop .head)
 flooding c =
     let s = start (c .before) in
     let a = s .args in
     c .loop .inv (a .notes .now)
-    (flooding-begin (a .height) (a .width) (a .slot) (a .colour) (a .origin) (a .notes .now) (s .pre .5) (s .pre .3)
-    (looked-pushed (a .set .now) (s .pre .2) (s .pre .4) (s .pre .5) (c .before .push .ensures)))
+    (flooding-begin (a .height) (a .width) (a .slot) (a .colour) (a .origin) (a .notes .now) (s .pre .5) (λ q. ap (λ (xs : List ℕ). sees xs q) (s .pre .3) ∙ none-seen seenWords q)
+    (looked-pushed (a .seen .now) (ap length (s .pre .3) ∙ length-replicate {A = ℕ} seenWords 0) (s .pre .2) (s .pre .4) (s .pre .5) (c .before .push .ensures)))
 
 -- what stands in the queue is on the board
 on : (c : tie.After-index Inv-loop μ-loop) → let loop = c .before .before .before in let a = start (loop .before) .args in c .index .result < area (a .height) (a .width)
@@ -71,7 +71,7 @@ look-around-requires c κs =
     let at = c .before .before .before .before in
     let loop = at .before .before .before in
     let s = start (loop .before) in
-    (s .pre .0, s .pre .1, flooding loop .ready, subst LibertySet (sym (flooding loop .shored)) (setOf-is _), on at)
+    (s .pre .0, s .pre .1, flooding loop .ready, flooding loop .seenLong, on at)
 
 add-head : tie.Need-add-head Inv-loop μ-loop
 add-head c = let loop = c .before .before .before .before .before .before .before .before in omega (arith, flooding loop .ready .room)

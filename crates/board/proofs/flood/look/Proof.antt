@@ -38,7 +38,7 @@ enum-told : tie.Need-enum-told
 enum-told c = search needs
 
 returns : tie.Need-returns
-returns c = rw (c .enum-told .given .1) (looked-none (c .before .before .pre .1) _)
+returns c = let s = c .before .before in rw (c .enum-told .given .1) (looked-none (s .pre .1) _ (s .pre .2))
 
 mul-index : tie.Need-mul-index
 mul-index c = let l = inside c in omega arith
@@ -49,8 +49,8 @@ element-copy-out-index c = inside c
 index-requires : tie.Need-index-requires
 index-requires c κs = search needs
 
-insert-liberty-requires : tie.Need-insert-liberty-requires
-insert-liberty-requires c κs = search needs
+see-requires : tie.Need-see-requires
+see-requires c κs = let told = c .before .before .before .before in (begin told .pre .2, inside told)
 
 returns-2 : tie.Need-returns-2
 returns-2 c =
@@ -58,8 +58,8 @@ returns-2 c =
     let told = at .before .before in
     let s = begin told in
     let vacant = sym (noted at) ∙ c .before .before .if1 .taken in
-    rw (told .before .place .given .1, c .insert-liberty .ensures)
-    (looked-empty (s .pre .1) (s .args .set .now) (told .before .place .given .0 .0) (λ e. omega (arith, s .pre .1 .low)) (inside told) vacant)
+    rw (told .before .place .given .1)
+    (looked-empty (s .pre .1) (s .args .seen .now) (s .pre .2) (told .before .place .given .0 .0) (λ e. omega (arith, s .pre .1 .low)) vacant (c .see .ensures))
 
 returns-3 : tie.Need-returns-3
 returns-3 c =
@@ -67,7 +67,7 @@ returns-3 c =
     let told = at .before .before in
     let s = begin told in
     rw (told .before .place .given .1)
-    (looked-past (s .pre .1) (s .args .set .now) (told .before .place .given .0 .0) (λ e. c .if2 .taken (noted at ∙ e)) (λ e. c .before .if1 .left (noted at ∙ e)))
+    (looked-past (s .pre .1) (s .args .seen .now) (s .pre .2) (told .before .place .given .0 .0) (λ e. c .if2 .taken (noted at ∙ e)) (λ e. c .before .if1 .left (noted at ∙ e)))
 
 push-requires : tie.Need-push-requires
 push-requires c κs =
@@ -84,7 +84,7 @@ returns-4 c =
     let told = at .before .before in
     let s = begin told in
     rw (told .before .place .given .1)
-    (looked-pushed (s .args .set .now) (s .pre .1) (on told) (sym (noted at) ∙ else .if2 .left) (c .push .ensures))
+    (looked-pushed (s .args .seen .now) (s .pre .2) (s .pre .1) (on told) (sym (noted at) ∙ else .if2 .left) (c .push .ensures))
 
 pub look-spec : {M : Type 1} → statement M
 look-spec =
@@ -96,7 +96,7 @@ look-spec =
     mul-index
     element-copy-out-index
     index-requires
-    insert-liberty-requires
+    see-requires
     returns-2
     returns-3
     push-requires

@@ -3,7 +3,7 @@ use mathlib.Core.Path.{sym, subst}
 use Rattle.rules.specs.Points.{area, back, stay, forth}
 use Rattle.points.specs.Place.{Within}
 use Rattle.board.specs.Laws.Edges.{towards-within}
-use Rattle.board.specs.Laws.Looked.{looked-set, looked-around}
+use Rattle.board.specs.Laws.Looked.{looked-around}
 use Rattle.board.proofs.flood.look_around.Statement.{statement}
 use Rattle.board.proofs.flood.look_around.Tie as tie
 
@@ -36,7 +36,7 @@ look-requires-2 c κs =
     let one = at .before in
     let s = first one in
     let a = s .args in
-    (s .pre .0, one .look .ensures .ready, looked-set (one .look .ensures) (s .pre .3), subst (Within (area (a .height) (a .width))) (sym (at .above .ensures)) (towards-within (a .height) (a .width) (a .point) back stay))
+    (s .pre .0, one .look .ensures .ready, one .look .ensures .seenLong, subst (Within (area (a .height) (a .width))) (sym (at .above .ensures)) (towards-within (a .height) (a .width) (a .point) back stay))
 
 right-requires : tie.Need-right-requires
 right-requires c κs = let s = first (second c) in (s .pre .1, s .pre .4, s .pre .2 .fits)
@@ -48,7 +48,7 @@ look-requires-3 c κs =
     let one = second two in
     let s = first one in
     let a = s .args in
-    (s .pre .0, two .look2 .ensures .ready, looked-set (two .look2 .ensures) (looked-set (one .look .ensures) (s .pre .3)), subst (Within (area (a .height) (a .width))) (sym (at .right .ensures)) (towards-within (a .height) (a .width) (a .point) stay forth))
+    (s .pre .0, two .look2 .ensures .ready, two .look2 .ensures .seenLong, subst (Within (area (a .height) (a .width))) (sym (at .right .ensures)) (towards-within (a .height) (a .width) (a .point) stay forth))
 
 left-requires : tie.Need-left-requires
 left-requires c κs = let s = first (second (third c)) in (s .pre .1, s .pre .4, s .pre .2 .fits)
@@ -61,7 +61,7 @@ look-requires-4 c κs =
     let one = second two in
     let s = first one in
     let a = s .args in
-    (s .pre .0, three .look3 .ensures .ready, looked-set (three .look3 .ensures) (looked-set (two .look2 .ensures) (looked-set (one .look .ensures) (s .pre .3))), subst (Within (area (a .height) (a .width))) (sym (at .left .ensures)) (towards-within (a .height) (a .width) (a .point) stay back))
+    (s .pre .0, three .look3 .ensures .ready, three .look3 .ensures .seenLong, subst (Within (area (a .height) (a .width))) (sym (at .left .ensures)) (towards-within (a .height) (a .width) (a .point) stay back))
 
 returns : tie.Need-returns
 returns c =

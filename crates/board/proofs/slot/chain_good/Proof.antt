@@ -11,7 +11,7 @@ use Rattle.rules.specs.Laws.Colours.{player-stone}
 use Rattle.board.specs.Judge.{ownerIn, player, counted, ring, libertiesGood, chainGood}
 use Rattle.board.specs.Laws.Lists.{and-fails, then-fails}
 use Rattle.board.specs.Laws.Tests.{player-says}
-use Rattle.board.specs.Laws.Slot.{lent-ready, origin-on, origin-noted, chain-passed, chain-counted, chain-liberties}
+use Rattle.board.specs.Laws.Slot.{lent-ready, origin-on, origin-noted, chain-passed, chain-counted, chain-seen, chain-liberties}
 use borrow.Author.Needs.{needs}
 use Rattle.board.proofs.slot.chain_good.Statement.{statement}
 use Rattle.board.proofs.slot.chain_good.Tie as tie
@@ -21,7 +21,7 @@ begin c = c .before .before .before .before
 
 -- the places before the flood: where the origin is found to be owned
 abbrev owned : tie.After-flood → tie.Else2
-owned c = c .before .before .before .before .before .before
+owned c = c .before .before .before .before .before
 
 player-good : (c : tie.After-owner-at) → player (begin c .args .chain .colour) ≡ true
 player-good c = let e = c .before .before in sym (e .before .is-player .ensures) ∙ not-false _ (e .if1 .left)
@@ -64,16 +64,12 @@ returns-2 c =
       λ t. absurd (not-both t refl),
     )
 
-empty-liberties-requires : tie.Need-empty-liberties-requires
-empty-liberties-requires c κs = search needs
-
 flood-requires : tie.Need-flood-requires
 flood-requires c κs =
-    let none = c .before .before .before .before in
-    let else = none .before in
+    let else = c .before .before .before .before in
     let s = begin (else .before) in
     let o = else .before .before .index .result in
-    (s .pre .numbers, s .pre .starting, lent-ready (s .pre) (s .args .chain .colour) (coloured (else .before)), none .empty-liberties .ensures, origin-on (s .pre) o (origin-owned else), origin-noted (s .pre) o (origin-owned else))
+    (s .pre .numbers, s .pre .starting, lent-ready (s .pre) (s .args .chain .colour) (coloured (else .before)), refl, origin-on (s .pre) o (origin-owned else), origin-noted (s .pre) o (origin-owned else))
 
 index-requires-2 : tie.Need-index-requires-2
 index-requires-2 c κs = search needs
@@ -122,7 +118,11 @@ returns-4 c =
     )
 
 liberties-good-requires : tie.Need-liberties-good-requires
-liberties-good-requires c κs = search needs
+liberties-good-requires c κs =
+    let at = c .before .before .before .before .before in
+    let else = owned at in
+    let s = begin (else .before) in
+    chain-seen (s .pre) (s .args .chain) (else .before .before .index .ensures) (at .flood .ensures)
 
 returns-5 : tie.Need-returns-5
 unfolding chainGood
@@ -148,7 +148,6 @@ chain-good-spec =
     index-requires
     owner-at-requires
     returns-2
-    empty-liberties-requires
     flood-requires
     index-requires-2
     returns-3
