@@ -22,6 +22,7 @@ ghost use Rattle.board.specs.Board.{newBoard};
 ghost use Rattle.placing.specs.Placing.{Adding, AddedTo, Placing, PlacedOn, NewBoard, FromColours};
 
 // What a call that makes a board gives: the answer, and the board.
+#[repr(C)]
 pub struct Placed {
     pub answer: u8,
     pub board: Board,

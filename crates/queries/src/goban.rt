@@ -28,34 +28,40 @@ ghost use Rattle.board.specs.True.{TrueBoard};
 ghost use Rattle.queries.specs.Answered.{Answered, offBoard};
 ghost use Rattle.queries.specs.Goban.{ownerOf, unowned, noSize, sizeOf, noHash, hashOf, noStones, stonesOf, noChains, chainsOf, noColour, colourOf, noTest, breathes};
 
+#[repr(C)]
 pub struct SizeAnswer {
     pub answer: u8,
     pub height: u8,
     pub width: u8,
 }
 
+#[repr(C)]
 pub struct HashAnswer {
     pub answer: u8,
     pub hash: u64,
 }
 
+#[repr(C)]
 pub struct StonesAnswer {
     pub answer: u8,
     pub black: usize,
     pub white: usize,
 }
 
+#[repr(C)]
 pub struct ChainsAnswer {
     pub answer: u8,
     pub chains: usize,
 }
 
+#[repr(C)]
 pub struct ColourAnswer {
     pub answer: u8,
     pub colour: u8,
 }
 
 // Whether what was asked holds.
+#[repr(C)]
 pub struct TestAnswer {
     pub answer: u8,
     pub holds: bool,

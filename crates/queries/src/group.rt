@@ -20,6 +20,7 @@ ghost use Rattle.queries.specs.Goban.{noTest};
 ghost use Rattle.queries.specs.Group.{noChain, told, chainOf, libertyAt};
 
 // The chain at a point, if one is present: its colour, its stones, its liberties, whether it has exactly one, and its least point.
+#[repr(C)]
 pub struct ChainAnswer {
     pub answer: u8,
     pub present: bool,

@@ -47,11 +47,11 @@ use Rattle.replaying.proofs.in_place.stone_in_place as inner
 use Rattle.replaying.proofs.in_place.stone_in_place.Symbol as inner-def
 use Rattle.replaying.proofs.in_place.stone_in_place.Symbol.{name as #inner}
 use Rattle.replaying.proofs.in_place.stone_in_place.Met as inner-thm
-use Rattle.border.proofs.samtrekhu_stone_in_place.Key.{name as #outer}
-use Rattle.border.proofs.samtrekhu_stone_in_place as outer
-use Rattle.border.proofs.samtrekhu_stone_in_place.Statement as stated
-use Rattle.border.proofs.samtrekhu_stone_in_place.Code as code
-use Rattle.border.proofs.samtrekhu_stone_in_place.Code.Mir as body
+use Rattle.border.proofs.in_place.samtrekhu_stone_in_place.Key.{name as #outer}
+use Rattle.border.proofs.in_place.samtrekhu_stone_in_place as outer
+use Rattle.border.proofs.in_place.samtrekhu_stone_in_place.Statement as stated
+use Rattle.border.proofs.in_place.samtrekhu_stone_in_place.Code as code
+use Rattle.border.proofs.in_place.samtrekhu_stone_in_place.Code.Mir as body
 
 -- ---- What is had of the parameters at exit: the two references were given away, and nothing is said of the rest
 

@@ -53,11 +53,11 @@ use Rattle.replaying.proofs.replay.replay as inner
 use Rattle.replaying.proofs.replay.replay.Symbol as inner-def
 use Rattle.replaying.proofs.replay.replay.Symbol.{name as #inner}
 use Rattle.replaying.proofs.replay.replay.Met as inner-thm
-use Rattle.border.proofs.samtrekhu_replay.Key.{name as #outer}
-use Rattle.border.proofs.samtrekhu_replay as outer
-use Rattle.border.proofs.samtrekhu_replay.Statement as stated
-use Rattle.border.proofs.samtrekhu_replay.Code as code
-use Rattle.border.proofs.samtrekhu_replay.Code.Mir as body
+use Rattle.border.proofs.calls.samtrekhu_replay.Key.{name as #outer}
+use Rattle.border.proofs.calls.samtrekhu_replay as outer
+use Rattle.border.proofs.calls.samtrekhu_replay.Statement as stated
+use Rattle.border.proofs.calls.samtrekhu_replay.Code as code
+use Rattle.border.proofs.calls.samtrekhu_replay.Code.Mir as body
 
 -- ---- What is had of the parameters at exit: the history was given away, and nothing is said of the rest
 

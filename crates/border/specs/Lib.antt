@@ -1,0 +1,3 @@
+-- The border: a game's facts in numbers alone.
+pub mod Facts
+pub mod Laws

@@ -1,0 +1,112 @@
+// Boards by value: made, judged and asked.
+use board::goban::Board;
+use board::judge::judge;
+use placing::place::Placed;
+use placing::place::from_colours;
+use placing::place::new_board;
+use queries::goban::ChainsAnswer;
+use queries::goban::ColourAnswer;
+use queries::goban::HashAnswer;
+use queries::goban::SizeAnswer;
+use queries::goban::StonesAnswer;
+use queries::goban::TestAnswer;
+use queries::goban::get_color;
+use queries::goban::has_liberties;
+use queries::goban::number_of_chains;
+use queries::goban::number_of_stones;
+use queries::goban::size;
+use queries::goban::zobrist_hash;
+use queries::group::ChainAnswer;
+use queries::group::chain_at;
+use queries::group::contains_liberty;
+ghost use mathlib.Core.Path.{_≡_};
+ghost use mathlib.Core.Bool.{true, false, _||_};
+ghost use Rattle.board.specs.True.{TrueBoard};
+ghost use Rattle.placing.specs.Placing.{NewBoard, FromColours};
+ghost use Rattle.queries.specs.Answered.{Answered, offBoard};
+ghost use Rattle.queries.specs.Goban.{noSize, sizeOf, noHash, hashOf, noStones, stonesOf, noChains, chainsOf, noColour, colourOf, noTest, breathes};
+ghost use Rattle.queries.specs.Group.{noChain, chainOf, libertyAt};
+
+#[no_mangle]
+pub extern "C" fn samtrekhu_new_board(height: u8, width: u8) -> Placed
+    ensures { λ r. ⌜ NewBoard height width r ⌝ }
+{
+    new_board(height, width)
+}
+
+#[no_mangle]
+pub extern "C" fn samtrekhu_from_colours(height: u8, width: u8, colours: &[u8]) -> Placed
+    ensures { λ r. ⌜ FromColours height width (now (colours .entry)) r ⌝ }
+{
+    from_colours(height, width, colours)
+}
+
+#[no_mangle]
+pub extern "C" fn samtrekhu_is_true_board(board: Board) -> bool
+    ensures sound { λ r. ⌜ (r ≡ true → TrueBoard board) ⌝ }
+    ensures complete { λ r. ⌜ (TrueBoard board → r ≡ true) ⌝ }
+{
+    judge(board)
+}
+
+#[no_mangle]
+pub extern "C" fn samtrekhu_size(board: Board) -> SizeAnswer
+    ensures { λ r. ⌜ Answered board false noSize (sizeOf board) r ⌝ }
+{
+    size(board)
+}
+
+#[no_mangle]
+pub extern "C" fn samtrekhu_zobrist_hash(board: Board) -> HashAnswer
+    ensures { λ r. ⌜ Answered board false noHash (hashOf board) r ⌝ }
+{
+    zobrist_hash(board)
+}
+
+#[no_mangle]
+pub extern "C" fn samtrekhu_number_of_stones(board: Board) -> StonesAnswer
+    ensures { λ r. ⌜ Answered board false noStones (stonesOf board) r ⌝ }
+{
+    number_of_stones(board)
+}
+
+#[no_mangle]
+pub extern "C" fn samtrekhu_number_of_chains(board: Board) -> ChainsAnswer
+    ensures { λ r. ⌜ Answered board false noChains (chainsOf board) r ⌝ }
+{
+    number_of_chains(board)
+}
+
+#[no_mangle]
+pub extern "C" fn samtrekhu_get_color(board: Board, row: u8, column: u8) -> ColourAnswer
+    ensures { λ r. ⌜ Answered board (offBoard board row column) noColour (colourOf board row column) r ⌝ }
+{
+    get_color(board, row, column)
+}
+
+#[no_mangle]
+pub extern "C" fn samtrekhu_has_liberties(board: Board, row: u8, column: u8) -> TestAnswer
+    ensures { λ r. ⌜ Answered board (offBoard board row column) noTest (breathes board row column) r ⌝ }
+{
+    has_liberties(board, row, column)
+}
+
+#[no_mangle]
+pub extern "C" fn samtrekhu_chain_at(board: Board, row: u8, column: u8) -> ChainAnswer
+    ensures { λ r. ⌜ Answered board (offBoard board row column) noChain (chainOf board row column) r ⌝ }
+{
+    chain_at(board, row, column)
+}
+
+#[no_mangle]
+pub extern "C" fn samtrekhu_contains_liberty(
+    board: Board,
+    row: u8,
+    column: u8,
+    other_row: u8,
+    other_column: u8,
+) -> TestAnswer
+    ensures { λ r. ⌜ Answered board (offBoard board row column || offBoard board «other_row» «other_column») noTest (libertyAt board row column «other_row» «other_column») r ⌝ }
+{
+    contains_liberty(board, row, column, other_row, other_column)
+}
