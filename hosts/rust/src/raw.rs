@@ -1,8 +1,8 @@
 //! The static library's constants, structs and calls, as C sees them: their one home in Rust.
 //!
-//! Every struct holds numbers alone, so that any bytes make one. A slice is a pointer and a length in elements; the pointer may dangle or be null
-//! where the length is 0. Calling a function is `unsafe` only because of its pointers: each must lead to as many elements as its length says, which
-//! nobody else uses while the call runs. What a state or a number says is never believed; the call answers one of the [`answers`].
+//! A state is a struct of numbers, and any numbers at all may be handed over: a call believes none of them and answers one of the [`answers`]. So the
+//! calls that take numbers and states alone are safe. A slice is a pointer and a length in elements; those calls are `unsafe`, since the pointer must
+//! lead to that many elements, which nobody else uses while the call runs. Where the length is 0 the pointer may be null or dangle.
 //!
 //! The safe types of this crate are made of these. Programs that want the bare calls, to time or to damage them, use this module.
 
@@ -366,57 +366,57 @@ pub struct Facts {
 }
 
 // What each call does stands at the safe method of its name.
-#[allow(missing_docs)]
-extern "C" {
-    pub fn samtrekhu_new_board(height: u8, width: u8) -> Placed;
-    pub fn samtrekhu_from_colours(height: u8, width: u8, colours: *const u8, length: usize) -> Placed;
-    pub fn samtrekhu_is_true_board(board: Board) -> bool;
-    pub fn samtrekhu_size(board: Board) -> SizeAnswer;
-    pub fn samtrekhu_zobrist_hash(board: Board) -> HashAnswer;
-    pub fn samtrekhu_number_of_stones(board: Board) -> StonesAnswer;
-    pub fn samtrekhu_number_of_chains(board: Board) -> ChainsAnswer;
-    pub fn samtrekhu_get_color(board: Board, row: u8, column: u8) -> ColourAnswer;
-    pub fn samtrekhu_has_liberties(board: Board, row: u8, column: u8) -> TestAnswer;
-    pub fn samtrekhu_chain_at(board: Board, row: u8, column: u8) -> ChainAnswer;
-    pub fn samtrekhu_contains_liberty(board: Board, row: u8, column: u8, other_row: u8, other_column: u8) -> TestAnswer;
-    pub fn samtrekhu_get_stones(board: Board, buffer: *mut u16, places: usize) -> Listed;
-    pub fn samtrekhu_get_coords_by_color(board: Board, colour: u8, buffer: *mut u16, places: usize) -> Listed;
-    pub fn samtrekhu_get_empty_coords(board: Board, buffer: *mut u16, places: usize) -> Listed;
-    pub fn samtrekhu_chain_stones(board: Board, row: u8, column: u8, buffer: *mut u16, places: usize) -> Listed;
-    pub fn samtrekhu_chain_liberties(board: Board, row: u8, column: u8, buffer: *mut u16, places: usize) -> Listed;
-    pub fn samtrekhu_get_connected_points(board: Board, row: u8, column: u8, buffer: *mut u16, places: usize) -> Listed;
-    pub fn samtrekhu_get_connected_stones(board: Board, row: u8, column: u8, buffer: *mut u16, places: usize) -> Listed;
-    pub fn samtrekhu_get_liberties(board: Board, row: u8, column: u8, buffer: *mut u16, places: usize) -> Listed;
-    pub fn samtrekhu_get_connected_groups(board: Board, row: u8, column: u8, buffer: *mut u16, places: usize) -> Listed;
-    pub fn samtrekhu_to_vec(board: Board, buffer: *mut u8, length: usize) -> Listed;
-    pub fn samtrekhu_pretty_string(board: Board, buffer: *mut u8, length: usize) -> Listed;
+#[allow(missing_docs, unsafe_code)]
+unsafe extern "C" {
+    pub safe fn samtrekhu_new_board(height: u8, width: u8) -> Placed;
+    pub unsafe fn samtrekhu_from_colours(height: u8, width: u8, colours: *const u8, length: usize) -> Placed;
+    pub safe fn samtrekhu_is_true_board(board: Board) -> bool;
+    pub safe fn samtrekhu_size(board: Board) -> SizeAnswer;
+    pub safe fn samtrekhu_zobrist_hash(board: Board) -> HashAnswer;
+    pub safe fn samtrekhu_number_of_stones(board: Board) -> StonesAnswer;
+    pub safe fn samtrekhu_number_of_chains(board: Board) -> ChainsAnswer;
+    pub safe fn samtrekhu_get_color(board: Board, row: u8, column: u8) -> ColourAnswer;
+    pub safe fn samtrekhu_has_liberties(board: Board, row: u8, column: u8) -> TestAnswer;
+    pub safe fn samtrekhu_chain_at(board: Board, row: u8, column: u8) -> ChainAnswer;
+    pub safe fn samtrekhu_contains_liberty(board: Board, row: u8, column: u8, other_row: u8, other_column: u8) -> TestAnswer;
+    pub unsafe fn samtrekhu_get_stones(board: Board, buffer: *mut u16, places: usize) -> Listed;
+    pub unsafe fn samtrekhu_get_coords_by_color(board: Board, colour: u8, buffer: *mut u16, places: usize) -> Listed;
+    pub unsafe fn samtrekhu_get_empty_coords(board: Board, buffer: *mut u16, places: usize) -> Listed;
+    pub unsafe fn samtrekhu_chain_stones(board: Board, row: u8, column: u8, buffer: *mut u16, places: usize) -> Listed;
+    pub unsafe fn samtrekhu_chain_liberties(board: Board, row: u8, column: u8, buffer: *mut u16, places: usize) -> Listed;
+    pub unsafe fn samtrekhu_get_connected_points(board: Board, row: u8, column: u8, buffer: *mut u16, places: usize) -> Listed;
+    pub unsafe fn samtrekhu_get_connected_stones(board: Board, row: u8, column: u8, buffer: *mut u16, places: usize) -> Listed;
+    pub unsafe fn samtrekhu_get_liberties(board: Board, row: u8, column: u8, buffer: *mut u16, places: usize) -> Listed;
+    pub unsafe fn samtrekhu_get_connected_groups(board: Board, row: u8, column: u8, buffer: *mut u16, places: usize) -> Listed;
+    pub unsafe fn samtrekhu_to_vec(board: Board, buffer: *mut u8, length: usize) -> Listed;
+    pub unsafe fn samtrekhu_pretty_string(board: Board, buffer: *mut u8, length: usize) -> Listed;
 
-    pub fn samtrekhu_new_game(height: u8, width: u8, flags: u8) -> Answered;
-    pub fn samtrekhu_handicap(game: Game, spots: *const u16, count: usize) -> Answered;
-    pub fn samtrekhu_stone(game: Game, history: *mut u8, length: usize, row: u8, column: u8) -> Answered;
-    pub fn samtrekhu_pass(game: Game) -> Answered;
-    pub fn samtrekhu_resign(game: Game, player: u8) -> Answered;
-    pub fn samtrekhu_resume(game: Game) -> Answered;
-    pub fn samtrekhu_replay(game: Game, history: *mut u8, length: usize, moves: *const Move, entries: usize) -> Replayed;
-    pub fn samtrekhu_check_point(game: Game, history: *const u8, length: usize, row: u8, column: u8) -> u8;
-    pub fn samtrekhu_check_point_by(game: Game, history: *const u8, length: usize, flags: u8, row: u8, column: u8) -> u8;
-    pub fn samtrekhu_legals(game: Game, history: *const u8, length: usize, buffer: *mut u16, places: usize) -> Listed;
-    pub fn samtrekhu_legals_by(game: Game, history: *const u8, length: usize, flags: u8, buffer: *mut u16, places: usize) -> Listed;
-    pub fn samtrekhu_facts_of(game: Game) -> Facts;
-    pub fn samtrekhu_is_true_game(game: Game) -> bool;
-    pub fn samtrekhu_is_true_game_with(game: Game, length: usize) -> bool;
-    pub fn samtrekhu_empty_points(game: Game, buffer: *mut u16, places: usize) -> Listed;
-    pub fn samtrekhu_board_of(game: Game) -> BoardAnswer;
-    pub fn samtrekhu_will_capture(game: Game, row: u8, column: u8) -> TestAnswer;
-    pub fn samtrekhu_is_suicide_at(game: Game, row: u8, column: u8) -> TestAnswer;
-    pub fn samtrekhu_is_ko_at(game: Game, row: u8, column: u8) -> TestAnswer;
-    pub fn samtrekhu_is_eye_at(game: Game, row: u8, column: u8) -> TestAnswer;
-    pub fn samtrekhu_is_superko_at(game: Game, history: *const u8, length: usize, row: u8, column: u8) -> TestAnswer;
+    pub safe fn samtrekhu_new_game(height: u8, width: u8, flags: u8) -> Answered;
+    pub unsafe fn samtrekhu_handicap(game: Game, spots: *const u16, count: usize) -> Answered;
+    pub unsafe fn samtrekhu_stone(game: Game, history: *mut u8, length: usize, row: u8, column: u8) -> Answered;
+    pub safe fn samtrekhu_pass(game: Game) -> Answered;
+    pub safe fn samtrekhu_resign(game: Game, player: u8) -> Answered;
+    pub safe fn samtrekhu_resume(game: Game) -> Answered;
+    pub unsafe fn samtrekhu_replay(game: Game, history: *mut u8, length: usize, moves: *const Move, entries: usize) -> Replayed;
+    pub unsafe fn samtrekhu_check_point(game: Game, history: *const u8, length: usize, row: u8, column: u8) -> u8;
+    pub unsafe fn samtrekhu_check_point_by(game: Game, history: *const u8, length: usize, flags: u8, row: u8, column: u8) -> u8;
+    pub unsafe fn samtrekhu_legals(game: Game, history: *const u8, length: usize, buffer: *mut u16, places: usize) -> Listed;
+    pub unsafe fn samtrekhu_legals_by(game: Game, history: *const u8, length: usize, flags: u8, buffer: *mut u16, places: usize) -> Listed;
+    pub safe fn samtrekhu_facts_of(game: Game) -> Facts;
+    pub safe fn samtrekhu_is_true_game(game: Game) -> bool;
+    pub safe fn samtrekhu_is_true_game_with(game: Game, length: usize) -> bool;
+    pub unsafe fn samtrekhu_empty_points(game: Game, buffer: *mut u16, places: usize) -> Listed;
+    pub safe fn samtrekhu_board_of(game: Game) -> BoardAnswer;
+    pub safe fn samtrekhu_will_capture(game: Game, row: u8, column: u8) -> TestAnswer;
+    pub safe fn samtrekhu_is_suicide_at(game: Game, row: u8, column: u8) -> TestAnswer;
+    pub safe fn samtrekhu_is_ko_at(game: Game, row: u8, column: u8) -> TestAnswer;
+    pub safe fn samtrekhu_is_eye_at(game: Game, row: u8, column: u8) -> TestAnswer;
+    pub unsafe fn samtrekhu_is_superko_at(game: Game, history: *const u8, length: usize, row: u8, column: u8) -> TestAnswer;
 
-    pub fn samtrekhu_stone_in_place(game: *mut Game, history: *mut u8, length: usize, row: u8, column: u8) -> u8;
-    pub fn samtrekhu_pass_in_place(game: *mut Game) -> u8;
-    pub fn samtrekhu_resign_in_place(game: *mut Game, player: u8) -> u8;
-    pub fn samtrekhu_resume_in_place(game: *mut Game) -> u8;
-    pub fn samtrekhu_handicap_in_place(game: *mut Game, spots: *const u16, count: usize) -> u8;
-    pub fn samtrekhu_replay_in_place(game: *mut Game, history: *mut u8, length: usize, moves: *const Move, entries: usize) -> ReplayedInPlace;
+    pub unsafe fn samtrekhu_stone_in_place(game: &mut Game, history: *mut u8, length: usize, row: u8, column: u8) -> u8;
+    pub safe fn samtrekhu_pass_in_place(game: &mut Game) -> u8;
+    pub safe fn samtrekhu_resign_in_place(game: &mut Game, player: u8) -> u8;
+    pub safe fn samtrekhu_resume_in_place(game: &mut Game) -> u8;
+    pub unsafe fn samtrekhu_handicap_in_place(game: &mut Game, spots: *const u16, count: usize) -> u8;
+    pub unsafe fn samtrekhu_replay_in_place(game: &mut Game, history: *mut u8, length: usize, moves: *const Move, entries: usize) -> ReplayedInPlace;
 }
