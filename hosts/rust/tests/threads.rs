@@ -1,0 +1,105 @@
+//! Games on threads: each call fits on a small stack, and games share nothing.
+
+use samtrekhu::{Board, Colour, Flags, Game, Move, Player, Point, Refusal};
+use std::thread;
+
+/// The stack that a call of a game is promised to fit in, and what a thread of Rust wants for itself.
+const STACK: usize = 262_144;
+
+/// Marsaglia's xorshift.
+struct Random(u64);
+
+impl Random {
+    fn below(&mut self, end: u8) -> u8 {
+        self.0 ^= self.0 << 13;
+        self.0 ^= self.0 >> 7;
+        self.0 ^= self.0 << 17;
+        (self.0 % u64::from(end)) as u8
+    }
+}
+
+/// Every question of a game and of its board at one point, whatever they answer.
+fn ask(game: &Game, point: Point) -> Result<(), Refusal> {
+    assert!(game.is_true());
+    let _ = (game.check_point(point), game.check_point_by(Flags::ALL, point));
+    game.legals()?;
+    game.legals_by(Flags::ALL)?;
+    game.empty_points()?;
+    game.facts()?;
+    game.will_capture(point)?;
+    game.is_suicide_at(point)?;
+    game.is_ko_at(point)?;
+    game.is_eye_at(point)?;
+    game.is_superko_at(point)?;
+    let board = game.board()?;
+    assert!(board.is_true());
+    let (height, width) = board.size()?;
+    board.zobrist_hash()?;
+    board.number_of_stones()?;
+    board.number_of_chains()?;
+    board.get_color(point)?;
+    board.has_liberties(point)?;
+    board.chain_at(point)?;
+    board.contains_liberty(point, point)?;
+    board.get_stones()?;
+    board.get_coords_by_color(Colour::White)?;
+    board.get_empty_coords()?;
+    board.chain_stones(point)?;
+    board.chain_liberties(point)?;
+    board.get_connected_points(point)?;
+    board.get_connected_stones(point)?;
+    board.get_liberties(point)?;
+    board.get_connected_groups(point)?;
+    board.pretty_string()?;
+    Board::new(height, width)?;
+    Board::from_colours(height, width, &board.to_vec()?)?;
+    Ok(())
+}
+
+/// A random game that makes every call, and the hash of its last board.
+fn play(side: u8, flags: Flags, seed: u64, stones: usize) -> Result<u64, Refusal> {
+    let mut random = Random(seed);
+    let mut game = Game::new(side, side, flags)?;
+    game.handicap(&[Point::new(0, 0), Point::new(side - 1, side - 1)])?;
+    let mut accepted = 0;
+    for turn in 0..100 * stones {
+        let point = Point::new(random.below(side), random.below(side));
+        let stone = if turn % 2 == 0 { game.stone(point) } else { game.replay(&[Move::Stone(point)]).map_err(|stopped| stopped.refusal) };
+        if stone.is_err() {
+            continue;
+        }
+        accepted += 1;
+        if accepted % 16 == 0 {
+            game.pass()?;
+            game.resume()?;
+            game.resign(Player::White)?;
+            ask(&game, point)?;
+        }
+        if accepted == stones {
+            break;
+        }
+    }
+    game.board()?.zobrist_hash()
+}
+
+fn on_thread<T: Send + 'static>(call: impl FnOnce() -> T + Send + 'static) -> thread::JoinHandle<T> {
+    thread::Builder::new().stack_size(STACK).spawn(call).expect("a thread")
+}
+
+#[test]
+fn every_call_fits_on_a_small_stack() {
+    for (side, byte) in [(2, 8), (3, 11), (5, 0), (9, 15), (19, 0), (19, 11), (19, 15)] {
+        let flags = Flags::from_byte(byte);
+        assert!(on_thread(move || play(side, flags, 7, 320)).join().expect("no overflow").is_ok());
+    }
+}
+
+#[test]
+fn games_on_threads_do_not_meet() {
+    let seeds = 1..=8;
+    let alone = seeds.clone().map(|seed| play(9, Flags::KO | Flags::SUPERKO, seed, 100).unwrap()).collect::<Vec<_>>();
+    let threads = seeds.map(|seed| on_thread(move || play(9, Flags::KO | Flags::SUPERKO, seed, 100).unwrap())).collect::<Vec<_>>();
+    let together = threads.into_iter().map(|thread| thread.join().unwrap()).collect::<Vec<_>>();
+    assert_eq!(alone, together);
+    assert!(alone.iter().any(|&hash| hash != alone[0]), "the games are different ones");
+}
