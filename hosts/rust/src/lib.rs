@@ -39,3 +39,8 @@ pub use history::History;
 pub use moves::{Move, Stopped};
 pub use point::{Point, Points};
 pub use refusal::Refusal;
+
+/// The example of the README is compiled and run with the others.
+#[cfg(doctest)]
+#[doc = include_str!("../README.md")]
+struct Readme;

@@ -3,8 +3,10 @@
 use samtrekhu::{Board, Colour, Flags, Game, Move, Player, Point, Refusal};
 use std::thread;
 
-/// The stack that a call of a game is promised to fit in, and what a thread of Rust wants for itself.
+/// A thread of this size has room for every call but one.
 const STACK: usize = 262_144;
+/// A replay takes nearly all of that by itself, so that the thread needs some more for its own start.
+const REPLAY_STACK: usize = STACK + 16_384;
 
 /// Marsaglia's xorshift.
 struct Random(u64);
@@ -56,16 +58,23 @@ fn ask(game: &Game, point: Point) -> Result<(), Refusal> {
     Ok(())
 }
 
-/// A random game that makes every call, and the hash of its last board.
-fn play(side: u8, flags: Flags, seed: u64, stones: usize) -> Result<u64, Refusal> {
+fn stone(game: &mut Game, point: Point) -> Result<(), Refusal> {
+    game.stone(point)
+}
+
+fn replay(game: &mut Game, point: Point) -> Result<(), Refusal> {
+    game.replay(&[Move::Stone(point), Move::Pass, Move::Resume]).map_err(|stopped| stopped.refusal)
+}
+
+/// A random game that makes every call, laying its stones as it is told, and the hash of its last board.
+fn play(side: u8, flags: Flags, seed: u64, stones: usize, lay: fn(&mut Game, Point) -> Result<(), Refusal>) -> Result<u64, Refusal> {
     let mut random = Random(seed);
     let mut game = Game::new(side, side, flags)?;
     game.handicap(&[Point::new(0, 0), Point::new(side - 1, side - 1)])?;
     let mut accepted = 0;
-    for turn in 0..100 * stones {
+    for _ in 0..100 * stones {
         let point = Point::new(random.below(side), random.below(side));
-        let stone = if turn % 2 == 0 { game.stone(point) } else { game.replay(&[Move::Stone(point)]).map_err(|stopped| stopped.refusal) };
-        if stone.is_err() {
+        if lay(&mut game, point).is_err() {
             continue;
         }
         accepted += 1;
@@ -82,23 +91,24 @@ fn play(side: u8, flags: Flags, seed: u64, stones: usize) -> Result<u64, Refusal
     game.board()?.zobrist_hash()
 }
 
-fn on_thread<T: Send + 'static>(call: impl FnOnce() -> T + Send + 'static) -> thread::JoinHandle<T> {
-    thread::Builder::new().stack_size(STACK).spawn(call).expect("a thread")
+fn on_thread<T: Send + 'static>(stack: usize, call: impl FnOnce() -> T + Send + 'static) -> thread::JoinHandle<T> {
+    thread::Builder::new().stack_size(stack).spawn(call).expect("a thread")
 }
 
 #[test]
 fn every_call_fits_on_a_small_stack() {
     for (side, byte) in [(2, 8), (3, 11), (5, 0), (9, 15), (19, 0), (19, 11), (19, 15)] {
         let flags = Flags::from_byte(byte);
-        assert!(on_thread(move || play(side, flags, 7, 320)).join().expect("no overflow").is_ok());
+        assert!(on_thread(STACK, move || play(side, flags, 7, 320, stone)).join().expect("no overflow").is_ok());
+        assert!(on_thread(REPLAY_STACK, move || play(side, flags, 7, 320, replay)).join().expect("no overflow").is_ok());
     }
 }
 
 #[test]
 fn games_on_threads_do_not_meet() {
-    let seeds = 1..=8;
-    let alone = seeds.clone().map(|seed| play(9, Flags::KO | Flags::SUPERKO, seed, 100).unwrap()).collect::<Vec<_>>();
-    let threads = seeds.map(|seed| on_thread(move || play(9, Flags::KO | Flags::SUPERKO, seed, 100).unwrap())).collect::<Vec<_>>();
+    let game = |seed| play(9, Flags::KO | Flags::SUPERKO, seed, 100, stone).unwrap();
+    let alone = (1..=8).map(game).collect::<Vec<_>>();
+    let threads = (1..=8).map(|seed| on_thread(STACK, move || game(seed))).collect::<Vec<_>>();
     let together = threads.into_iter().map(|thread| thread.join().unwrap()).collect::<Vec<_>>();
     assert_eq!(alone, together);
     assert!(alone.iter().any(|&hash| hash != alone[0]), "the games are different ones");
