@@ -51,14 +51,14 @@ fn served(games: &str, each: &str) -> Vec<String> {
 
 #[test]
 fn server() {
-    let lines = served("60", "300");
-    assert_eq!(lines, served("60", "300"), "two runs are the same");
-    assert_ne!(lines, served("60", "301"));
+    let lines = served("40", "600");
+    assert_eq!(lines, served("40", "600"), "two runs are the same");
+    assert_ne!(lines, served("40", "601"));
     let (first, rest) = lines.split_first().unwrap();
-    assert_eq!(first, "60 games, 300 calls on each: 18000 calls");
+    assert_eq!(first, "40 games, 600 calls on each: 24000 calls");
     let (answers, last) = rest.split_at(rest.len() - 2);
     let answers = answers.iter().map(|line| line.trim().split_once(' ').expect("a count and a name")).collect::<Vec<_>>();
-    assert_eq!(answers.iter().map(|(count, _)| count.parse::<usize>().unwrap()).sum::<usize>(), 18_000);
+    assert_eq!(answers.iter().map(|(count, _)| count.parse::<usize>().unwrap()).sum::<usize>(), 24_000);
     let names = ["accepted", "GamePaused", "OffBoard", "PointNotEmpty", "Suicide", "Ko", "FillEye", "NotAtStart"];
     assert!(answers.iter().map(|(_, name)| *name).eq(names), "every refusal that a client can meet is met");
     // no stone is lost or made up

@@ -1,20 +1,12 @@
 //! What is asked of boards and games, beside a plain look at the colours.
 
+#[path = "../examples/random/mod.rs"]
+mod random;
+
+use random::Random;
 use samtrekhu::Colour::{self, Black, Empty, White};
 use samtrekhu::{Board, Chain, Facts, Flags, Game, Move, Player, Point, Prisoners, Refusal, Stones};
 use std::collections::BTreeSet;
-
-/// Marsaglia's xorshift.
-struct Random(u64);
-
-impl Random {
-    fn below(&mut self, end: u8) -> u8 {
-        self.0 ^= self.0 << 13;
-        self.0 ^= self.0 >> 7;
-        self.0 ^= self.0 << 17;
-        (self.0 % u64::from(end)) as u8
-    }
-}
 
 /// The colours of a board, looked at point by point.
 struct Plain {

@@ -1,12 +1,11 @@
 //! Every refusal is reached, and has changed nothing.
 
+mod common;
+
+use common::{after, game};
 use samtrekhu::raw::{self, answers, MAX_STONES};
 use samtrekhu::{Board, Flags, Game, Move, Player, Point, Refusal, Stopped};
 use std::error::Error;
-
-fn game(height: u8, width: u8, flags: Flags) -> Game {
-    Game::new(height, width, flags).expect("a new game")
-}
 
 fn damaged() -> Game {
     let (mut state, history) = game(9, 9, Flags::NONE).into_raw();
@@ -37,12 +36,6 @@ fn endless() -> Game {
 fn paused() -> Game {
     let mut game = game(9, 9, Flags::NONE);
     game.replay(&[Move::Pass, Move::Pass]).expect("two passes");
-    game
-}
-
-fn after(height: u8, width: u8, flags: Flags, stones: &[(u8, u8)]) -> Game {
-    let mut game = game(height, width, flags);
-    stones.iter().for_each(|&point| game.stone(point).expect("a stone"));
     game
 }
 

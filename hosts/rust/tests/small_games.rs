@@ -1,19 +1,9 @@
 //! The twelve small games that are known by heart.
 
+mod common;
+
+use common::{after, game};
 use samtrekhu::{Colour, Flags, Game, Move, Player, Point, Prisoners, Refusal};
-
-fn game(height: u8, width: u8, flags: Flags) -> Game {
-    Game::new(height, width, flags).expect("a new game")
-}
-
-/// The game after these stones, all of them accepted.
-fn after(height: u8, width: u8, flags: Flags, stones: &[(u8, u8)]) -> Game {
-    let mut game = game(height, width, flags);
-    for &point in stones {
-        assert_eq!(game.stone(point), Ok(()), "stone {point:?}");
-    }
-    game
-}
 
 /// White stones removed, then Black ones.
 fn prisoners(game: &Game) -> (u32, u32) {

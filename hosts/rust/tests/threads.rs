@@ -1,5 +1,9 @@
 //! Games on threads: each call fits on a small stack, and games share nothing.
 
+#[path = "../examples/random/mod.rs"]
+mod random;
+
+use random::Random;
 use samtrekhu::{Board, Colour, Flags, Game, Move, Player, Point, Refusal};
 use std::thread;
 
@@ -7,18 +11,6 @@ use std::thread;
 const STACK: usize = 262_144;
 /// A replay takes nearly all of that by itself, so that the thread needs some more for its own start.
 const REPLAY_STACK: usize = STACK + 16_384;
-
-/// Marsaglia's xorshift.
-struct Random(u64);
-
-impl Random {
-    fn below(&mut self, end: u8) -> u8 {
-        self.0 ^= self.0 << 13;
-        self.0 ^= self.0 >> 7;
-        self.0 ^= self.0 << 17;
-        (self.0 % u64::from(end)) as u8
-    }
-}
 
 /// Every question of a game and of its board at one point, whatever they answer.
 fn ask(game: &Game, point: Point) -> Result<(), Refusal> {
@@ -112,4 +104,13 @@ fn games_on_threads_do_not_meet() {
     let together = threads.into_iter().map(|thread| thread.join().unwrap()).collect::<Vec<_>>();
     assert_eq!(alone, together);
     assert!(alone.iter().any(|&hash| hash != alone[0]), "the games are different ones");
+}
+
+#[test]
+fn a_game_goes_from_thread_to_thread() {
+    let mut game = Game::new(9, 9, Flags::ALL).unwrap();
+    for row in 0..9 {
+        game = on_thread(STACK, move || game.stone((row, row)).map(|()| game)).join().unwrap().unwrap();
+    }
+    assert_eq!(game.facts().unwrap().accepted, 9);
 }
