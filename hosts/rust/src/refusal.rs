@@ -118,7 +118,7 @@ impl fmt::Display for Refusal {
             Refusal::OffBoard => "There is no such point on this board.",
             Refusal::PointNotEmpty => "A stone is there already.",
             Refusal::Suicide => "The stone would have no liberty, and suicide is forbidden in this game.",
-            Refusal::Ko => "The stone would take back or repeat, and that is forbidden in this game.",
+            Refusal::Ko => "It is a ko: a stone was just taken there, or an earlier board would come back.",
             Refusal::FillEye => "The point is an eye of the player's own, and filling one is forbidden in this game.",
             Refusal::MoveLimit => "The game has 65,535 stones, and takes no more.",
             Refusal::HistoryFull => "There is no room left to record the board.",

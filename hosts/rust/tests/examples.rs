@@ -22,7 +22,7 @@ White, stone (1, 1): accepted
 Black, stone (4, 5): OffBoard (5). There is no such point on this board.
 Black, stone (4, 1): accepted
 White, stone (0, 0): accepted
-Black, stone (0, 1): Ko (8). The stone would take back or repeat, and that is forbidden in this game.
+Black, stone (0, 1): Ko (8). It is a ko: a stone was just taken there, or an earlier board would come back.
 Black, stone (3, 0): accepted
 White, stone (4, 0): Suicide (7). The stone would have no liberty, and suicide is forbidden in this game.
 White, stone (0, 0): PointNotEmpty (6). A stone is there already.
