@@ -3,23 +3,25 @@
  *
  * STATES. A game and a board are structs of integers, and hold no pointer: they can be copied, kept and thrown away as any number can. Any
  * bytes at all may stand in one. A call judges the state that it gets before all else, and answers 3 (Damaged) exactly if it is not a true
- * state. Bytes of padding mean nothing, and a call may change them. Three bytes of a game are true whatever they hold: `turn` (2 is White, all else is Black), `outcome` (1 is Black, 2 White, all else none) and `begun` (0 is a game that has
- * not begun, all else one that has). A call leaves free which of these bytes it writes, which slot a chain stands in and what unused
- * slots hold, so two equal positions may differ as bytes: read a game by samtrekhu_facts_of and the queries, not by its fields.
+ * state. Bytes of padding mean nothing, and a call may change them. Of three bytes of a game every value means something: `turn` (2 is
+ * White, all else Black), `outcome` (1 is Black, 2 White, all else none) and `begun` (0 is a game that has not begun, all else one that
+ * has). Which of the values that mean the same a call writes is left free, and so is which slot a chain stands in and what unused slots
+ * hold. Two games that are alike may therefore differ as bytes: read a game by samtrekhu_facts_of and the queries, not by its fields.
  *
- * NUMBERS. Every call answers a number of enum SamtrekhuNumber. A contract below lists, after "Answers", the numbers that the call can answer in the
- * order in which they are tested: the first that applies is answered, 0 (Accepted) if none does.
+ * NUMBERS. Every call answers a number of enum SamtrekhuNumber. A contract below lists, after "Answers", the numbers that the call can
+ * answer in the order in which they are tested: the first that applies is answered, 0 (Accepted) if none does.
  *
  * REFUSALS. A call that answers anything but 0 gives back the state that it got, field by field, and leaves the bytes and places that it was
  * lent as they were. Replay alone keeps what its accepted entries did. Other values that come with a refusal are stated at each call.
  *
- * POINTS. Row 0 is at the top, column 0 at the left. The index of a point is row * width + column. Rows, columns, heights, widths, flags, colours
- * and players are bytes: C cuts a larger number to its low byte without a word (a row of 256 would arrive as 0), so a host compares it with 255
- * before it calls, and takes anything above as 255, which no board has.
+ * POINTS. Row 0 is at the top, column 0 at the left. The index of a point is row * width + column. Rows, columns, heights, widths, flags,
+ * colours and players are bytes: C cuts a larger number to its low byte without a word (a row of 256 would arrive as 0), so a host compares
+ * a stranger's number with 255 before it calls, and takes anything above as 255, which is no row, column, side, flag byte or colour.
  *
  * LENT RANGES. A range is a pointer and a length in elements. With length 0 the pointer may be NULL. Otherwise it is aligned for its elements
- * and leads to that many of them, which no one else writes while the call runs; those that the call may write (a pointer to what is not const) no one
- * else reads either. The ranges of one call must not overlap each other, nor the game of a call in place. A call keeps no pointer.
+ * and leads to that many of them, which no one else writes while the call runs; those that the call may write (a pointer to what is not
+ * const) no one else reads either. The ranges of one call must not overlap each other, nor the game of a call in place. A call keeps no
+ * pointer.
  *
  * HISTORY. A history is bytes that the host lends, with room for length / SAMTREKHU_RECORD_BYTES records (whole ones; the bytes behind
  * them never change). The game counts its records and the bytes hold them: lend the same bytes to each call of one game, and

@@ -4,15 +4,15 @@
 #include <stdio.h>
 
 static const SamtrekhuMove moves[] = {
-    {SAMTREKHU_KIND_STONE, 1, 2}, {SAMTREKHU_KIND_STONE, 2, 2}, {SAMTREKHU_KIND_STONE, 2, 1}, {SAMTREKHU_KIND_STONE, 1, 3},
-    {SAMTREKHU_KIND_STONE, 2, 1}, /* a stone is there */
-    {SAMTREKHU_KIND_STONE, 3, 2}, {SAMTREKHU_KIND_STONE, 0, 2}, {SAMTREKHU_KIND_STONE, 4, 0}, {SAMTREKHU_KIND_STONE, 1, 1},
-    {SAMTREKHU_KIND_STONE, 2, 3}, /* takes one stone */
-    {SAMTREKHU_KIND_STONE, 2, 2}, /* takes back at once */
-    {SAMTREKHU_KIND_STONE, 5, 0}, /* no such row */
-    {SAMTREKHU_KIND_PASS, 0, 0}, {SAMTREKHU_KIND_PASS, 0, 0},
+    {SAMTREKHU_KIND_STONE, 0, 1},        {SAMTREKHU_KIND_STONE, 0, 2}, {SAMTREKHU_KIND_STONE, 1, 0}, {SAMTREKHU_KIND_STONE, 1, 3},
+    {SAMTREKHU_KIND_STONE, 2, 1},        {SAMTREKHU_KIND_STONE, 2, 2}, {SAMTREKHU_KIND_STONE, 2, 1}, /* a stone is there */
+    {SAMTREKHU_KIND_STONE, 4, 4},        {SAMTREKHU_KIND_STONE, 0, 0},                               /* no liberty */
+    {SAMTREKHU_KIND_STONE, 1, 1},        {SAMTREKHU_KIND_STONE, 1, 2},                               /* takes one stone, */
+    {SAMTREKHU_KIND_STONE, 1, 1},                                                                    /* which is not taken back at once */
+    {SAMTREKHU_KIND_STONE, 5, 0},                                                                    /* no such row */
+    {SAMTREKHU_KIND_STONE, 3, 3},        {SAMTREKHU_KIND_PASS, 0, 0},  {SAMTREKHU_KIND_PASS, 0, 0},
     {SAMTREKHU_KIND_RESIGN_WHITE, 0, 0}, /* two passes stand */
-    {SAMTREKHU_KIND_RESUME, 0, 0}, {SAMTREKHU_KIND_RESIGN_WHITE, 0, 0},
+    {SAMTREKHU_KIND_RESUME, 0, 0},       {SAMTREKHU_KIND_RESIGN_WHITE, 0, 0},
 };
 
 static SamtrekhuGame game;
@@ -62,7 +62,7 @@ int main(void)
     SamtrekhuListed drawn = samtrekhu_pretty_string(game.board, picture, sizeof picture);
     fwrite(picture, 1, drawn.count, stdout);
     SamtrekhuFacts facts = samtrekhu_facts_of(game);
-    printf("stones %d, prisoners %u White and %u Black, records %zu\n", facts.accepted, (unsigned)facts.prisoners.white,
-           (unsigned)facts.prisoners.black, facts.records);
+    printf("stones accepted: %d; taken: %u White, %u Black; records: %zu; named: %d\n", facts.accepted, (unsigned)facts.prisoners.white,
+           (unsigned)facts.prisoners.black, facts.records, facts.outcome);
     return 0;
 }
