@@ -76,6 +76,18 @@ static void every_length(uint8_t height, uint8_t width)
     CHECK(colours(NULL, 0).number == SAMTREKHU_BAD_LENGTH && picture(NULL, 0).number == SAMTREKHU_BAD_LENGTH);
 }
 
+/* Lists that fill a buffer of just the length that is needed: every point of an empty board. */
+static void whole_board(uint8_t height, uint8_t width)
+{
+    static Fill *const wholes[] = {empties, legal, legal_by, empty_points};
+    size_t area = (size_t)height * width;
+    begin(&game, height, width, 0);
+    CHECK(at_board_of(&game, &board) == SAMTREKHU_ACCEPTED);
+    for (size_t i = 0; i < sizeof wholes / sizeof wholes[0]; i++) {
+        fill(wholes[i], area, area, area);
+    }
+}
+
 /* Which refusal comes first where a buffer is too short as well. */
 static void order(void)
 {
@@ -103,4 +115,6 @@ void lengths(void)
     every_length(2, 1);
     every_length(19, 19);
     order();
+    whole_board(3, 4);
+    whole_board(19, 19);
 }
