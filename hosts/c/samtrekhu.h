@@ -8,8 +8,9 @@
  * has). Which of the values that mean the same a call writes is left free, and so is which slot a chain stands in and what unused slots
  * hold. Two games that are alike may therefore differ as bytes: read a game by samtrekhu_facts_of and the queries, not by its fields.
  *
- * NUMBERS. Every call answers a number of enum SamtrekhuNumber. A contract below lists, after "Answers", the numbers that the call can
- * answer in the order in which they are tested: the first that applies is answered, 0 (Accepted) if none does.
+ * NUMBERS. Every call answers a number of enum SamtrekhuNumber, but for the three that say whether a state is true. A contract below
+ * lists, after "Answers", the numbers that the call can answer in the order in which they are tested: the first that applies is
+ * answered, 0 (Accepted) if none does.
  *
  * REFUSALS. A call that answers anything but 0 gives back the state that it got, field by field, and leaves the bytes and places that it was
  * lent as they were. Replay alone keeps what its accepted entries did. Other values that come with a refusal are stated at each call.
@@ -31,9 +32,9 @@
  * THREADS. The library has no variable of its own, so different games may be used on different threads at once. Calls that are lent
  * the same game in place or the same history must come one after the other, as with any memory.
  *
- * STACK. A call of a game needs less than 262,144 bytes of stack and one of a board less than 131,072, with the structs that are passed and
- * given back by value (docs/BENCHMARKS.md; measured, not proved). A thread that calls needs that much beside what it uses itself. No call
- * allocates, traps, recurses or waits, and every call ends. */
+ * STACK. A call needs less than 262,144 bytes of stack, with the structs that are passed and given back by value (measured, not proved:
+ * docs/BENCHMARKS.md). A thread that calls needs that much beside what it uses itself. No call allocates, traps, recurses or waits, and
+ * every call ends. */
 #ifndef SAMTREKHU_H
 #define SAMTREKHU_H
 
@@ -78,7 +79,11 @@ enum SamtrekhuFlag {
 };
 
 /* The colour of a point; a player has the number of the stones' colour. */
-enum SamtrekhuColour { SAMTREKHU_EMPTY = 0, SAMTREKHU_BLACK = 1, SAMTREKHU_WHITE = 2 };
+enum SamtrekhuColour {
+    SAMTREKHU_EMPTY = 0,
+    SAMTREKHU_BLACK = 1,
+    SAMTREKHU_WHITE = 2
+};
 
 /* The kinds of a replay's entries. */
 enum SamtrekhuKind {
@@ -351,10 +356,7 @@ static inline const char *samtrekhu_sentence(uint8_t number)
 }
 
 /* A spot of a handicap. */
-static inline uint16_t samtrekhu_spot(uint8_t row, uint8_t column)
-{
-    return (uint16_t)(row * 256 + column);
-}
+static inline uint16_t samtrekhu_spot(uint8_t row, uint8_t column) { return (uint16_t)(row * 256 + column); }
 
 /* ---- A board: made */
 
@@ -367,7 +369,7 @@ SamtrekhuPlaced samtrekhu_from_colours(uint8_t height, uint8_t width, const uint
 
 /* ---- A board: asked. Each judges the board first, and only that: 3 where it is not a true board. */
 
-/* Whether it is a true board. */
+/* Whether it is a true board: no number, no refusal. */
 bool samtrekhu_is_true_board(SamtrekhuBoard board);
 
 /* Answers: 3. Refused: 0 and 0. */
@@ -388,7 +390,7 @@ SamtrekhuColourAnswer samtrekhu_get_color(SamtrekhuBoard board, uint8_t row, uin
 /* Whether a point, empty or not, has an empty neighbour. Answers: 3, 5. Refused: false. */
 SamtrekhuTestAnswer samtrekhu_has_liberties(SamtrekhuBoard board, uint8_t row, uint8_t column);
 
-/* The chain at a point. Answers: 3, 5. At an empty point 0 is answered and none is present. Refused or not present: false and 0 everywhere. */
+/* The chain at a point. Answers: 3, 5. At an empty point 0 is answered and none is present. Refused, or none: false and 0 everywhere. */
 SamtrekhuChainAnswer samtrekhu_chain_at(SamtrekhuBoard board, uint8_t row, uint8_t column);
 
 /* Whether the second point is a liberty of the chain at the first; false where the first is empty.
@@ -463,7 +465,7 @@ SamtrekhuAnswered samtrekhu_resume(SamtrekhuGame game);
 
 /* The entries in order, up to the first that is refused. The state is judged once, before them. Game and history are as the accepted
  * entries left them; where none was accepted, as they were.
- * Answers: 3 with 0 entries (also if the records exceed length / 100); else 0, or what the refused entry answers: 18, then its call's order. */
+ * Answers: 3 with 0 entries (also if the records exceed length / 100); else 0, or the refused entry's number: 18, then its call's order. */
 SamtrekhuReplayed samtrekhu_replay(SamtrekhuGame game, uint8_t *history, size_t length, const SamtrekhuMove *moves, size_t entries);
 
 /* ---- A game: changed where it stands. As the call of the same name by value; the game must not be NULL. */

@@ -4,13 +4,14 @@
 #include <stdio.h>
 
 static const SamtrekhuMove moves[] = {
-    {SAMTREKHU_KIND_STONE, 0, 1},        {SAMTREKHU_KIND_STONE, 0, 2}, {SAMTREKHU_KIND_STONE, 1, 0}, {SAMTREKHU_KIND_STONE, 1, 3},
-    {SAMTREKHU_KIND_STONE, 2, 1},        {SAMTREKHU_KIND_STONE, 2, 2}, {SAMTREKHU_KIND_STONE, 2, 1}, /* a stone is there */
-    {SAMTREKHU_KIND_STONE, 4, 4},        {SAMTREKHU_KIND_STONE, 0, 0},                               /* no liberty */
-    {SAMTREKHU_KIND_STONE, 1, 1},        {SAMTREKHU_KIND_STONE, 1, 2},                               /* takes one stone, */
-    {SAMTREKHU_KIND_STONE, 1, 1},                                                                    /* which is not taken back at once */
-    {SAMTREKHU_KIND_STONE, 5, 0},                                                                    /* no such row */
-    {SAMTREKHU_KIND_STONE, 3, 3},        {SAMTREKHU_KIND_PASS, 0, 0},  {SAMTREKHU_KIND_PASS, 0, 0},
+    {SAMTREKHU_KIND_STONE, 0, 1},        {SAMTREKHU_KIND_STONE, 0, 2},        {SAMTREKHU_KIND_STONE, 1, 0},
+    {SAMTREKHU_KIND_STONE, 1, 3},        {SAMTREKHU_KIND_STONE, 2, 1},        {SAMTREKHU_KIND_STONE, 2, 2},
+    {SAMTREKHU_KIND_STONE, 2, 1},                                      /* a stone is there */
+    {SAMTREKHU_KIND_STONE, 4, 4},        {SAMTREKHU_KIND_STONE, 0, 0}, /* no liberty */
+    {SAMTREKHU_KIND_STONE, 1, 1},        {SAMTREKHU_KIND_STONE, 1, 2}, /* takes one stone, */
+    {SAMTREKHU_KIND_STONE, 1, 1},                                      /* which is not taken back at once */
+    {SAMTREKHU_KIND_STONE, 5, 0},                                      /* no such row */
+    {SAMTREKHU_KIND_STONE, 3, 3},        {SAMTREKHU_KIND_PASS, 0, 0},         {SAMTREKHU_KIND_PASS, 0, 0},
     {SAMTREKHU_KIND_RESIGN_WHITE, 0, 0}, /* two passes stand */
     {SAMTREKHU_KIND_RESUME, 0, 0},       {SAMTREKHU_KIND_RESIGN_WHITE, 0, 0},
 };

@@ -31,9 +31,9 @@ static void made(void)
         size_t length;
         uint8_t answer;
     } const wrong[] = {
-        {0, 2, 3, 9, 1}, {2, 20, 3, 9, 1}, /* the size before all else */
-        {2, 2, 3, 3, 14}, {2, 2, 3, 5, 14}, {2, 2, 0, 0, 14}, {19, 19, 0, 362, 14}, {19, 19, 0, 360, 14}, /* then the length */
-        {2, 2, 3, 4, 15}, {2, 2, 255, 4, 15}, {1, 1, 3, 1, 15}, /* then the colours */
+        {0, 2, 3, 9, 1},  {2, 20, 3, 9, 1},                                                                 /* the size before all else */
+        {2, 2, 3, 3, 14}, {2, 2, 3, 5, 14},   {2, 2, 0, 0, 14}, {19, 19, 0, 362, 14}, {19, 19, 0, 360, 14}, /* then the length */
+        {2, 2, 3, 4, 15}, {2, 2, 255, 4, 15}, {1, 1, 3, 1, 15},                                             /* then the colours */
         {1, 1, 1, 1, 13}, {1, 1, 2, 1, 13},
     };
     for (size_t i = 0; i < sizeof wrong / sizeof wrong[0]; i++) {

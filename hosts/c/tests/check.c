@@ -34,8 +34,8 @@ static bool same_tally(SamtrekhuTally a, SamtrekhuTally b) { return a.black == b
 bool same_game(const SamtrekhuGame *a, const SamtrekhuGame *b)
 {
     return same_board(&a->board, &b->board) && a->flags == b->flags && a->turn == b->turn && a->passes == b->passes
-           && a->outcome == b->outcome && a->begun == b->begun && a->ko == b->ko && a->handicap == b->handicap
-           && a->accepted == b->accepted && same_tally(a->held, b->held) && same_tally(a->put, b->put) && a->records == b->records;
+           && a->outcome == b->outcome && a->begun == b->begun && a->ko == b->ko && a->handicap == b->handicap && a->accepted == b->accepted
+           && same_tally(a->held, b->held) && same_tally(a->put, b->put) && a->records == b->records;
 }
 
 bool alike(const SamtrekhuGame *a, const SamtrekhuGame *b)
@@ -81,7 +81,10 @@ void begin(SamtrekhuGame *game, uint8_t height, uint8_t width, uint8_t flags)
     CHECK(at_new_game(game, height, width, flags) == SAMTREKHU_ACCEPTED);
 }
 
-enum { GUARD = 64, FILL = 0xA5 };
+enum {
+    GUARD = 64,
+    FILL = 0xA5
+};
 
 Lent lend(size_t length)
 {

@@ -1,7 +1,9 @@
 /* States that are not true: every call answers 3, exactly if the judge says no, and changes nothing. */
 #include "check.h"
 
-enum { LENGTH = 20 * SAMTREKHU_RECORD_BYTES };
+enum {
+    LENGTH = 20 * SAMTREKHU_RECORD_BYTES
+};
 static uint8_t history[LENGTH];
 static SamtrekhuGame played, game, before, after;
 static SamtrekhuBoard board, single;
@@ -47,10 +49,8 @@ static void ask_board(bool is_true)
         count += got.count;
     }
     SamtrekhuListed lists[] = {
-        at_get_stones(&board, buffer, SAMTREKHU_MAX_AREA),
-        at_get_coords_by_color(&board, 1, buffer, SAMTREKHU_MAX_AREA),
-        at_get_empty_coords(&board, buffer, SAMTREKHU_MAX_AREA),
-        at_to_vec(&board, drawn.at, SAMTREKHU_PICTURE_BYTES),
+        at_get_stones(&board, buffer, SAMTREKHU_MAX_AREA),           at_get_coords_by_color(&board, 1, buffer, SAMTREKHU_MAX_AREA),
+        at_get_empty_coords(&board, buffer, SAMTREKHU_MAX_AREA),     at_to_vec(&board, drawn.at, SAMTREKHU_PICTURE_BYTES),
         at_pretty_string(&board, drawn.at, SAMTREKHU_PICTURE_BYTES),
     };
     for (size_t i = 0; i < sizeof lists / sizeof lists[0]; i++) {
@@ -151,12 +151,12 @@ static void judge(void)
 }
 
 /* One number changed in a true state: no longer true. */
-#define CHANGED(field, value) \
-    do {                      \
-        game = played;        \
-        game.field = (value); \
+#define CHANGED(field, value)           \
+    do {                                \
+        game = played;                  \
+        game.field = (value);           \
         CHECK(!at_is_true_game(&game)); \
-        judge();              \
+        judge();                        \
     } while (0)
 
 static void one_number(void)
@@ -226,7 +226,8 @@ void damage(void)
         game = played;
         /* anywhere; before the chains; in the first ten chains; behind the board */
         static const size_t from[] = {0, 0, offsetof(SamtrekhuBoard, chains), sizeof(SamtrekhuBoard)};
-        static const uint32_t many[] = {sizeof game, offsetof(SamtrekhuBoard, chains), 10 * sizeof(SamtrekhuChain), sizeof game - sizeof(SamtrekhuBoard)};
+        static const uint32_t many[] = {sizeof game, offsetof(SamtrekhuBoard, chains), 10 * sizeof(SamtrekhuChain),
+                                        sizeof game - sizeof(SamtrekhuBoard)};
         size_t at = from[i % 4] + chance(&seed, many[i % 4]);
         ((uint8_t *)&game)[at] ^= (uint8_t)(1u << chance(&seed, 8));
         wrong += !at_is_true_game(&game);

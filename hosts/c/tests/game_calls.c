@@ -2,7 +2,9 @@
 #include "check.h"
 
 static SamtrekhuGame game, before, after, fresh;
-enum { LENGTH = 10 * SAMTREKHU_RECORD_BYTES };
+enum {
+    LENGTH = 10 * SAMTREKHU_RECORD_BYTES
+};
 static uint8_t history[LENGTH], kept[LENGTH];
 
 /* Remembers the state and the bytes, for `untouched`. */
@@ -184,16 +186,19 @@ static void tests(void)
     CHECK(says(at_is_suicide_at(&game, 0, 0), true) && says(at_is_eye_at(&game, 0, 0), true));
     CHECK(says(at_is_ko_at(&game, 0, 0), false) && says(at_will_capture(&game, 0, 0), false));
     CHECK(says(at_is_superko_at(&game, NULL, 0, 0, 0), false));
-    CHECK(at_check_point_by(&game, NULL, 0, 2, 0, 0) == SAMTREKHU_SUICIDE && at_check_point_by(&game, NULL, 0, 4, 0, 0) == SAMTREKHU_FILL_EYE);
+    CHECK(at_check_point_by(&game, NULL, 0, 2, 0, 0) == SAMTREKHU_SUICIDE
+          && at_check_point_by(&game, NULL, 0, 4, 0, 0) == SAMTREKHU_FILL_EYE);
     CHECK(at_check_point_by(&game, NULL, 0, 15, 0, 0) == SAMTREKHU_SUICIDE && at_check_point(&game, NULL, 0, 0, 0) == SAMTREKHU_ACCEPTED);
     begin(&game, 1, 2, 0);
     CHECK(play(0, 0) == 0 && play(0, 1) == 0);
     CHECK(says(at_is_ko_at(&game, 0, 0), true) && says(at_will_capture(&game, 0, 0), true) && says(at_is_suicide_at(&game, 0, 0), false));
-    CHECK(says(at_is_ko_at(&game, 0, 1), false) && says(at_will_capture(&game, 0, 1), false)); /* a stone stands there */
-    CHECK(says(at_is_superko_at(&game, history, LENGTH, 0, 0), false)); /* two records are too few */
+    /* where a stone stands, no; and two records are too few for superko */
+    CHECK(says(at_is_ko_at(&game, 0, 1), false) && says(at_will_capture(&game, 0, 1), false));
+    CHECK(says(at_is_superko_at(&game, history, LENGTH, 0, 0), false));
     CHECK(at_check_point_by(&game, history, LENGTH, 1, 0, 0) == SAMTREKHU_KO && at_check_point_by(&game, history, LENGTH, 8, 0, 0) == 0);
     CHECK(play(0, 0) == 0);
-    CHECK(says(at_is_superko_at(&game, history, LENGTH, 0, 1), true) && at_check_point_by(&game, history, LENGTH, 8, 0, 1) == SAMTREKHU_SUPER_KO);
+    CHECK(says(at_is_superko_at(&game, history, LENGTH, 0, 1), true)
+          && at_check_point_by(&game, history, LENGTH, 8, 0, 1) == SAMTREKHU_SUPER_KO);
     CHECK(says(at_is_superko_at(&game, history, LENGTH, 0, 0), false) && says(at_is_eye_at(&game, 0, 1), false));
     CHECK(refuses(at_is_superko_at(&game, history, 299, 0, 1), SAMTREKHU_DAMAGED));
     static TestAt *const asked[] = {at_will_capture, at_is_suicide_at, at_is_ko_at, at_is_eye_at};
@@ -224,8 +229,8 @@ static void lists(void)
 static void replays(void)
 {
     const SamtrekhuMove moves[] = {
-        {SAMTREKHU_KIND_STONE, 1, 1},           {SAMTREKHU_KIND_RESIGN_BLACK, 99, 99}, {SAMTREKHU_KIND_PASS, 99, 99}, {SAMTREKHU_KIND_PASS, 0, 0},
-        {SAMTREKHU_KIND_RESUME, 99, 99},        {SAMTREKHU_KIND_RESIGN_WHITE, 0, 0},   {SAMTREKHU_KIND_STONE, 0, 0},  {5, 0, 0},
+        {SAMTREKHU_KIND_STONE, 1, 1},    {SAMTREKHU_KIND_RESIGN_BLACK, 99, 99}, {SAMTREKHU_KIND_PASS, 99, 99}, {SAMTREKHU_KIND_PASS, 0, 0},
+        {SAMTREKHU_KIND_RESUME, 99, 99}, {SAMTREKHU_KIND_RESIGN_WHITE, 0, 0},   {SAMTREKHU_KIND_STONE, 0, 0},  {5, 0, 0},
     };
     begin(&game, 3, 3, 0);
     remember();
@@ -256,7 +261,9 @@ static void replays(void)
 /* A game of 65,535 stones takes no other: on 1 x 2 each takes the one before. */
 static void limit(void)
 {
-    enum { STONES = SAMTREKHU_MAX_STONES + 1 };
+    enum {
+        STONES = SAMTREKHU_MAX_STONES + 1
+    };
     SamtrekhuMove *moves = malloc(STONES * sizeof *moves);
     for (size_t i = 0; i < STONES; i++) {
         SamtrekhuMove move = {SAMTREKHU_KIND_STONE, 0, (uint8_t)(i % 2)};

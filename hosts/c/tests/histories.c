@@ -1,7 +1,9 @@
 /* The history: which bytes a stone writes, by their own rule, and with how much room it is accepted. */
 #include "check.h"
 
-enum { STONES = 4 };
+enum {
+    STONES = 4
+};
 static SamtrekhuGame game, before, after;
 static const uint8_t columns[STONES] = {0, 2, 4, 6};
 

@@ -1,4 +1,4 @@
-/* Buffers of every length around what is needed, with guards before and behind: too short, nothing is written; long enough, the rest stays. */
+/* Buffers of every length around what is needed, with guards before and behind: if too short, nothing is written; if not, the rest stays. */
 #include "check.h"
 
 static SamtrekhuBoard board;
@@ -20,7 +20,8 @@ static SamtrekhuListed legal_by(uint16_t *b, size_t n) { return at_legals_by(&ga
 static SamtrekhuListed empty_points(uint16_t *b, size_t n) { return at_empty_points(&game, b, n); }
 
 typedef SamtrekhuListed Fill(uint16_t *buffer, size_t places);
-static Fill *const fills[] = {stones, whites, empties, chain, liberties, beside, stones_beside, empty_beside, groups, legal, legal_by, empty_points};
+static Fill *const fills[] = {stones,        whites,       empties, chain, liberties, beside,
+                              stones_beside, empty_beside, groups,  legal, legal_by,  empty_points};
 
 static SamtrekhuListed colours(uint8_t *b, size_t n) { return at_to_vec(&board, b, n); }
 static SamtrekhuListed picture(uint8_t *b, size_t n) { return at_pretty_string(&board, b, n); }

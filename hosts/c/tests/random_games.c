@@ -1,7 +1,10 @@
 /* Games by chance: what is accepted is what the lists and the checks say, and by value, in place and by replay the same happens. */
 #include "check.h"
 
-enum { LENGTH = 700 * SAMTREKHU_RECORD_BYTES, MOVES = 900 };
+enum {
+    LENGTH = 700 * SAMTREKHU_RECORD_BYTES,
+    MOVES = 900
+};
 static uint8_t history[LENGTH], other[LENGTH];
 static SamtrekhuGame game, before, after;
 static SamtrekhuMove moves[MOVES];
@@ -38,6 +41,27 @@ static void try_move(SamtrekhuMove move)
     }
 }
 
+/* What the check answers, by the tests one by one. */
+static uint8_t by_tests(uint8_t flags, bool empty, bool suicide, bool ko, bool eye, bool superko)
+{
+    if (!empty) {
+        return SAMTREKHU_POINT_NOT_EMPTY;
+    }
+    if (suicide && (flags & SAMTREKHU_FORBID_SUICIDE)) {
+        return SAMTREKHU_SUICIDE;
+    }
+    if (ko && (flags & SAMTREKHU_FORBID_KO)) {
+        return SAMTREKHU_KO;
+    }
+    if (eye && (flags & SAMTREKHU_FORBID_FILL_EYE)) {
+        return SAMTREKHU_FILL_EYE;
+    }
+    if (superko && (flags & SAMTREKHU_FORBID_SUPER_KO)) {
+        return SAMTREKHU_SUPER_KO;
+    }
+    return SAMTREKHU_ACCEPTED;
+}
+
 /* The legal points are those that the check accepts, and a stone is refused as the check says. */
 static void look(uint8_t height, uint8_t width, uint8_t flags, uint32_t *seed)
 {
@@ -59,13 +83,7 @@ static void look(uint8_t height, uint8_t width, uint8_t flags, uint32_t *seed)
         CHECK(empty == (number != SAMTREKHU_POINT_NOT_EMPTY));
         bool suicide = at_is_suicide_at(&game, row, column).holds, ko = at_is_ko_at(&game, row, column).holds;
         bool eye = at_is_eye_at(&game, row, column).holds, superko = at_is_superko_at(&game, history, LENGTH, row, column).holds;
-        uint8_t expected = !empty ? SAMTREKHU_POINT_NOT_EMPTY
-                           : (flags & SAMTREKHU_FORBID_SUICIDE) && suicide ? SAMTREKHU_SUICIDE
-                           : (flags & SAMTREKHU_FORBID_KO) && ko ? SAMTREKHU_KO
-                           : (flags & SAMTREKHU_FORBID_FILL_EYE) && eye ? SAMTREKHU_FILL_EYE
-                           : (flags & SAMTREKHU_FORBID_SUPER_KO) && superko ? SAMTREKHU_SUPER_KO
-                                                                            : SAMTREKHU_ACCEPTED;
-        CHECK(number == expected);
+        CHECK(number == by_tests(flags, empty, suicide, ko, eye, superko));
         CHECK(!at_will_capture(&game, row, column).holds || !suicide);
     }
 }

@@ -1,14 +1,16 @@
 /* The small games known by heart, G1 to G12: each by value, in place and as a replay. */
 #include "check.h"
 
-/* What a step does: 's' a stone, 'p' a pass, 'b' and 'w' a resignation that names Black or White, 'r' a resumption, 'h' a handicap of this one
- * spot, 'H' of this spot and the one to its right. */
+/* What a step does: 's' a stone, 'p' a pass, 'b' a resignation that names Black, 'r' a resumption, 'h' a handicap of this one spot, 'H' of this
+ * spot and the one to its right. */
 typedef struct Step {
     char what;
     uint8_t row, column, answer;
 } Step;
 
-enum { STEPS = 5 };
+enum {
+    STEPS = 5
+};
 
 typedef struct Known {
     const char *name;
@@ -22,10 +24,13 @@ typedef struct Known {
     uint8_t turn;
 } Known;
 
-#define NINE "......... ......... ......... ......... "
-#define MIDDLE "....B.... "
+#define FOUR "......... ......... ......... ......... "
+#define BARE FOUR "......... " FOUR
+#define ONE FOUR "....B.... " FOUR
 #define NONE SAMTREKHU_NO_POINT
 
+/* Name, height, width, flags, bytes of history; the steps with their numbers; at the end the board, White and Black stones held, the ko point,
+ * the records and whose turn it is. */
 static const Known games[] = {
     {"G1", 1, 1, 2, 1000, {{'s', 0, 0, 7}}, ".", 0, 0, NONE, 0, 1},
     {"G2", 1, 1, 0, 1000, {{'s', 0, 0, 0}}, ".", 0, 1, NONE, 1, 2},
@@ -37,10 +42,10 @@ static const Known games[] = {
     {"G8", 1, 3, 1, 1000, {{'s', 0, 0, 0}, {'s', 0, 1, 0}, {'s', 0, 0, 8}}, ".W.", 0, 1, 0, 2, 1},
     {"G9", 1, 3, 3, 1000, {{'s', 0, 0, 0}, {'s', 0, 1, 0}, {'s', 0, 0, 7}}, ".W.", 0, 1, 0, 2, 1},
     {"G10", 1, 2, 0, 1000, {{'H', 0, 0, 13}, {'h', 0, 0, 0}}, "B.", 0, 0, NONE, 0, 2},
-    {"G11", 9, 9, 0, 1000, {{'p', 0, 0, 0}, {'p', 0, 0, 0}, {'b', 0, 0, 4}, {'r', 0, 0, 0}, {'s', 4, 4, 0}}, NINE MIDDLE NINE, 0, 0, NONE, 1, 2},
-    {"G12", 9, 9, 0, 1000, {{'s', 0, 12, 5}}, NINE "......... " NINE, 0, 0, NONE, 0, 1},
-    {"G12 with 99 bytes", 9, 9, 0, 99, {{'s', 4, 4, 11}}, NINE "......... " NINE, 0, 0, NONE, 0, 1},
-    {"G12 with 100 bytes", 9, 9, 0, 100, {{'s', 4, 4, 0}, {'s', 4, 5, 11}}, NINE MIDDLE NINE, 0, 0, NONE, 1, 2},
+    {"G11", 9, 9, 0, 1000, {{'p', 0, 0, 0}, {'p', 0, 0, 0}, {'b', 0, 0, 4}, {'r', 0, 0, 0}, {'s', 4, 4, 0}}, ONE, 0, 0, NONE, 1, 2},
+    {"G12", 9, 9, 0, 1000, {{'s', 0, 12, 5}}, BARE, 0, 0, NONE, 0, 1},
+    {"G12 with 99 bytes", 9, 9, 0, 99, {{'s', 4, 4, 11}}, BARE, 0, 0, NONE, 0, 1},
+    {"G12 with 100 bytes", 9, 9, 0, 100, {{'s', 4, 4, 0}, {'s', 4, 5, 11}}, ONE, 0, 0, NONE, 1, 2},
 };
 
 static size_t spots_of(Step step, uint16_t spots[2])
@@ -58,7 +63,6 @@ static uint8_t by_value(SamtrekhuGame *game, uint8_t *history, size_t length, St
     case 's': return at_stone(game, history, length, step.row, step.column, game);
     case 'p': return at_pass(game, game);
     case 'b': return at_resign(game, SAMTREKHU_BLACK, game);
-    case 'w': return at_resign(game, SAMTREKHU_WHITE, game);
     case 'r': return at_resume(game, game);
     default: return at_handicap(game, spots, count, game);
     }
@@ -72,7 +76,6 @@ static uint8_t in_place(SamtrekhuGame *game, uint8_t *history, size_t length, St
     case 's': return samtrekhu_stone_in_place(game, history, length, step.row, step.column);
     case 'p': return samtrekhu_pass_in_place(game);
     case 'b': return samtrekhu_resign_in_place(game, SAMTREKHU_BLACK);
-    case 'w': return samtrekhu_resign_in_place(game, SAMTREKHU_WHITE);
     case 'r': return samtrekhu_resume_in_place(game);
     default: return samtrekhu_handicap_in_place(game, spots, count);
     }
@@ -84,7 +87,6 @@ static SamtrekhuMove move_of(Step step)
     switch (step.what) {
     case 'p': move.kind = SAMTREKHU_KIND_PASS; break;
     case 'b': move.kind = SAMTREKHU_KIND_RESIGN_BLACK; break;
-    case 'w': move.kind = SAMTREKHU_KIND_RESIGN_WHITE; break;
     case 'r': move.kind = SAMTREKHU_KIND_RESUME; break;
     default: break;
     }

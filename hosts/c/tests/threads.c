@@ -3,7 +3,11 @@
 #include "check.h"
 #include "on_stack.h"
 
-enum { GAMES = 4, STONES = 250, LENGTH = STONES * SAMTREKHU_RECORD_BYTES };
+enum {
+    GAMES = 4,
+    STONES = 250,
+    LENGTH = STONES * SAMTREKHU_RECORD_BYTES
+};
 
 typedef struct Desk {
     SamtrekhuGame game;
