@@ -20,6 +20,8 @@ static void run(void *at)
 
 int main(void)
 {
+    /* what was printed is seen also where a stack is too small */
+    setvbuf(stdout, NULL, _IOLBF, BUFSIZ);
     for (size_t i = 0; i < sizeof parts / sizeof parts[0]; i++) {
         size_t before = checks, failed = failures;
         Part part = parts[i];
