@@ -336,14 +336,14 @@ static inline const char *samtrekhu_sentence(uint8_t number)
     switch (number) {
     case SAMTREKHU_ACCEPTED: return "Accepted.";
     case SAMTREKHU_BAD_SIZE: return "A board has 1 to 19 rows and 1 to 19 columns.";
-    case SAMTREKHU_BAD_FLAGS: return "The flags forbid something that has no name.";
+    case SAMTREKHU_BAD_FLAGS: return "Flags are a sum of 1, 2, 4 and 8.";
     case SAMTREKHU_DAMAGED: return "The state of the game is damaged.";
     case SAMTREKHU_GAME_PAUSED: return "Both players have passed: resume the game to play on.";
     case SAMTREKHU_OFF_BOARD: return "This point is not on the board.";
     case SAMTREKHU_POINT_NOT_EMPTY: return "A stone is there already.";
     case SAMTREKHU_SUICIDE: return "The stone would have no liberty, and suicide is forbidden.";
-    case SAMTREKHU_KO: return "The stone would repeat a position, and ko is forbidden.";
-    case SAMTREKHU_FILL_EYE: return "The stone would fill an eye of its own colour, which is forbidden.";
+    case SAMTREKHU_KO: return "Ko forbids a stone there now.";
+    case SAMTREKHU_FILL_EYE: return "The stone would fill an eye of its own, which is forbidden.";
     case SAMTREKHU_MOVE_LIMIT: return "The game has as many stones as a game can have.";
     case SAMTREKHU_HISTORY_FULL: return "There is no room left to record the position.";
     case SAMTREKHU_NOT_AT_START: return "A handicap is given before all else.";
