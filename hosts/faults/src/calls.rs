@@ -166,7 +166,7 @@ impl<T: Copy + PartialEq> Lent<T> {
         self.length = length;
     }
 
-    fn at(&mut self) -> *mut T {
+    pub fn at(&mut self) -> *mut T {
         self.all[GUARD..].as_mut_ptr()
     }
 

@@ -1,6 +1,7 @@
 //! The run: true states are played, damaged, judged twice, and handed to the library's calls.
 
-use crate::calls::{Call, Desk, Gives, Judges, CALLS};
+use crate::calls::{Desk, CALLS};
+use crate::check::{wrong, Verdict};
 use crate::damage::{Scene, KINDS};
 use crate::judge::Judge;
 use crate::play::{fresh, Played};
@@ -11,8 +12,6 @@ use std::thread;
 
 /// The stack that a host's thread is thought to have at least.
 const STACK: usize = 256 << 10;
-/// A replay of today's library wants more.
-const REPLAY_STACK: usize = 512 << 10;
 
 /// What is run.
 #[derive(Clone)]
@@ -68,6 +67,8 @@ pub struct Table {
 /// A disagreement.
 pub struct Found {
     pub what: String,
+    /// the sides before the damage
+    pub sides: (u8, u8),
     pub kinds: Vec<usize>,
     pub game: Box<Game>,
     pub lent: usize,
@@ -76,7 +77,14 @@ pub struct Found {
 impl Found {
     pub fn text(&self) -> String {
         let kinds: Vec<&str> = self.kinds.iter().map(|&kind| KINDS[kind].name).collect();
-        format!("{}\ndamage: {}\nhistory bytes lent: {}\n{}", self.what, kinds.join("; then "), self.lent, text::state(&self.game))
+        let (height, width) = self.sides;
+        format!(
+            "{}\ndamage to {height}×{width}: {}\nhistory bytes lent: {}\n{}",
+            self.what,
+            kinds.join("; then "),
+            self.lent,
+            text::state(&self.game)
+        )
     }
 }
 
@@ -88,19 +96,20 @@ pub fn run(plan: &Plan) -> Result<Table, Found> {
     })
 }
 
-/// The same disagreement on the smallest board that shows it in a short search.
+/// A like disagreement on the smallest board, by the fewest of its ways of damage, that a short search finds.
 pub fn shrunk(plan: &Plan, found: Found) -> Found {
-    let size = |game: &Game| usize::from(game.board.height) * usize::from(game.board.width);
+    let area = |(height, width): (u8, u8)| usize::from(height) * usize::from(width);
     let mut sides: Vec<(u8, u8)> = (1..=MAX_SIDE).flat_map(|height| (1..=MAX_SIDE).map(move |width| (height, width))).collect();
-    sides.sort_by_key(|&(height, width)| usize::from(height) * usize::from(width));
-    for (height, width) in sides {
-        if usize::from(height) * usize::from(width) >= size(&found.game) {
-            break;
-        }
-        let kinds = Some(found.kinds.clone());
-        let small = Plan { states: 1_000, sides: Some((height, width)), kinds, progress: |_| (), ..plan.clone() };
-        if let Err(smaller) = run(&small) {
-            return smaller;
+    sides.sort_by_key(|&sides| area(sides));
+    sides.retain(|&smaller| area(smaller) <= area(found.sides));
+    let mut fewer: Vec<Vec<usize>> = found.kinds.iter().map(|&kind| vec![kind]).collect();
+    fewer.push(found.kinds.clone());
+    for sides in sides {
+        for kinds in &fewer {
+            let small = Plan { states: 1_000, sides: Some(sides), kinds: Some(kinds.clone()), progress: |_| (), ..plan.clone() };
+            if let Err(smaller) = run(&small) {
+                return smaller;
+            }
         }
     }
     found
@@ -154,7 +163,8 @@ fn one(plan: &Plan, played: &Played, other: &Game, random: &mut Random, desk: &m
         }
     };
     desk.lend(&played.history, lent, random);
-    let found = |what: String, desk: &Desk| Found { what, kinds: kinds.clone(), game: desk.given.clone(), lent };
+    let sides = (played.game.board.height, played.game.board.width);
+    let found = |what: String, desk: &Desk| Found { what, sides, kinds: kinds.clone(), game: desk.given.clone(), lent };
     let verdict = Verdict::of(&plan.judge, &desk.given, lent);
     if let Some(what) = verdict.differs(&desk.given, lent) {
         return Err(found(what, desk));
@@ -195,72 +205,4 @@ fn lent_bytes(played: &Played, random: &mut Random) -> usize {
         _ => played.history.len(),
     };
     length.min(played.history.len())
-}
-
-/// The judge's word on the board alone, the game, and the game with its history.
-struct Verdict {
-    board: bool,
-    game: bool,
-    with: bool,
-}
-
-impl Verdict {
-    fn of(judge: &Judge, game: &Game, lent: usize) -> Verdict {
-        Verdict { board: judge.board(&game.board), game: judge.game(game), with: judge.with(game, lent) }
-    }
-
-    fn on(&self, call: &Call) -> bool {
-        match call.judges {
-            Judges::Board => self.board,
-            Judges::Game => self.game,
-            Judges::WithHistory => self.with,
-        }
-    }
-
-    /// What the library says otherwise.
-    #[inline(never)]
-    fn differs(&self, game: &Game, lent: usize) -> Option<String> {
-        let differ = |what: &str, ours: bool, theirs: bool| (ours != theirs).then(|| format!("{what}: the library says {theirs}, the judge {ours}"));
-        differ("true board", self.board, samtrekhu_is_true_board(game.board))
-            .or_else(|| differ("true game", self.game, samtrekhu_is_true_game(*game)))
-            .or_else(|| differ("true game with its history", self.with, samtrekhu_is_true_game_with(*game, lent)))
-    }
-}
-
-/// Makes a call, and says what is wrong with what it did.
-fn wrong(call: &Call, desk: &mut Desk, verdict: &Verdict, judge: &Judge) -> Option<String> {
-    let answer = match call.gives {
-        Gives::Entries => thread::scope(|scope| {
-            let caller = thread::Builder::new().stack_size(REPLAY_STACK).spawn_scoped(scope, || (call.make)(desk)).expect("a thread");
-            caller.join().expect("the call")
-        }),
-        _ => (call.make)(desk),
-    };
-    if (answer == answers::DAMAGED) == verdict.on(call) {
-        return Some(format!("answers {answer} where the judge says {}", verdict.on(call)));
-    }
-    let refused = answer != answers::ACCEPTED;
-    // a replay keeps what its accepted entries did
-    let as_it_was = if call.gives == Gives::Entries { answer == answers::DAMAGED } else { refused };
-    if call.gives != Gives::Answer {
-        if as_it_was && desk.back != desk.given {
-            return Some(format!("answers {answer} and hands back another state"));
-        }
-        let is_true = if call.judges == Judges::WithHistory { judge.with(&desk.back, desk.history.length) } else { judge.game(&desk.back) };
-        if !as_it_was && !is_true {
-            return Some(format!("answers {answer} and hands back a state that is not true"));
-        }
-    }
-    if (as_it_was || call.gives == Gives::Answer) && !desk.history.untouched() {
-        return Some(format!("answers {answer} and changes the history"));
-    }
-    if refused && !(desk.list.untouched() && desk.bytes.untouched()) {
-        return Some(format!("answers {answer} and changes a lent buffer"));
-    }
-    // "Bytes beyond the capacity never change"
-    let records = desk.history.length / RECORD_BYTES * RECORD_BYTES;
-    if !(desk.history.same_beyond(records) && desk.list.same_beyond(desk.list.length) && desk.bytes.same_beyond(desk.bytes.length)) {
-        return Some(format!("answers {answer} and changes bytes beyond what was lent"));
-    }
-    None
 }
