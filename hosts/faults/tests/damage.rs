@@ -4,17 +4,12 @@ use faults::damage::{free, KINDS};
 use faults::judge::{Clause, Judge, CLAUSES};
 use faults::run::{run, shrunk, Plan};
 
-/// What is left out together with a clause. A game not begun whose stones put are none has none on the board by the sums, so that
-/// the clause on its board alone is missed only where that on its sums is missing too.
-fn left_out(clause: Clause) -> Vec<Clause> {
-    match clause {
-        Clause::UnbegunBoard => vec![clause, Clause::UnbegunPut],
-        _ => vec![clause],
-    }
-}
-
 fn plan(clauses: &[Clause]) -> Plan {
     Plan { judge: Judge::without(clauses), calls: false, ..Plan::new(20_000, 2) }
+}
+
+fn kind(name: &str) -> usize {
+    KINDS.iter().position(|kind| kind.name == name).expect("one of the kinds")
 }
 
 #[test]
@@ -26,8 +21,18 @@ fn the_whole_judge_agrees() {
 #[test]
 fn a_judge_without_a_clause_is_noticed() {
     for &clause in CLAUSES {
-        let found = run(&plan(&left_out(clause))).err().unwrap_or_else(|| panic!("{clause:?} is not missed"));
+        // a game not begun of which nothing was put has an empty board by its sums, so that the clause on its board refuses nothing
+        // until the one on its sums is left out too
+        let (others, kinds): (&[Clause], _) = match clause {
+            Clause::UnbegunBoard => (&[Clause::UnbegunPut], Some(vec![kind("not begun, with stones and their sums")])),
+            _ => (&[], None),
+        };
+        let weak = Plan { kinds, ..plan(&[&[clause], others].concat()) };
+        let found = run(&weak).err().unwrap_or_else(|| panic!("{clause:?} is not missed"));
         assert!(found.what.contains("the library says false, the judge true"), "{clause:?}: {}", found.what);
+        // it is this clause that refuses the state
+        let judge = Judge::without(others);
+        assert!(!judge.with(&found.game, found.lent), "{clause:?}: {}", found.text());
     }
 }
 
@@ -46,7 +51,7 @@ fn a_difference_is_shown_on_a_small_board() {
 #[test]
 fn what_is_free_stays_true() {
     for kind in free::KINDS {
-        let at = KINDS.iter().position(|other| other.name == kind.name).expect("one of all kinds");
+        let at = self::kind(kind.name);
         let table = run(&Plan { kinds: Some(vec![at]), ..Plan::new(300, 3) }).unwrap_or_else(|found| panic!("{}", found.text()));
         let row = table.kinds[at];
         assert_eq!((row.tried, row.true_boards, row.true_games), (300, 300, 300), "{}", kind.name);
