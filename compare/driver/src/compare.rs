@@ -1,4 +1,4 @@
-//! The same lines through both programs: every call is followed by `state`, and the answers must be equal.
+//! The same lines through both programs: after every call the state is asked for, and where lists are wanted the legal list; the answers must be equal.
 
 use crate::program::Program;
 
@@ -12,10 +12,27 @@ pub struct Pair {
 pub struct Difference {
     pub game: usize,
     pub call: usize,
-    /// Whether it is the state after the call that differs.
-    pub in_state: bool,
+    /// The question after the call whose answer differs; none where it is the call's own.
+    pub after: Option<String>,
     pub left: String,
     pub right: String,
+}
+
+/// The flags that a line starts a game by.
+fn flags_of(line: &str) -> Option<u8> {
+    let flags = line.strip_prefix("new ")?.split(' ').nth(2)?.parse().ok();
+    flags.filter(|&flags| flags < 16)
+}
+
+/// Each call of a game with the questions after it: the state, and the legal list by the flags of the game.
+fn asked(game: &[String], lists: bool) -> Vec<Vec<String>> {
+    let mut flags = 0;
+    let with_questions = |line: &String| {
+        flags = flags_of(line).unwrap_or(flags);
+        let list = lists.then(|| format!("legals {flags}"));
+        [line.clone(), "state".to_string()].into_iter().chain(list).collect()
+    };
+    game.iter().map(with_questions).collect()
 }
 
 /// What is said in words after `?` is free.
@@ -32,11 +49,12 @@ impl Difference {
 
 impl Pair {
     /// Plays the games through both. Gives the left answers to the calls, game by game, or the first difference.
-    pub fn play(&self, games: &[&[String]]) -> Result<Vec<Vec<String>>, Difference> {
+    pub fn play(&self, games: &[&[String]], lists: bool) -> Result<Vec<Vec<String>>, Difference> {
+        let games: Vec<Vec<Vec<String>>> = games.iter().map(|game| asked(game, lists)).collect();
         let mut text = Vec::new();
-        for line in games.iter().flat_map(|game| game.iter()) {
+        for line in games.iter().flatten().flatten() {
             text.extend_from_slice(line.as_bytes());
-            text.extend_from_slice(b"\nstate\n");
+            text.push(b'\n');
         }
         let (left, right) = std::thread::scope(|scope| {
             let left = scope.spawn(|| self.left.answers(&text));
@@ -45,16 +63,16 @@ impl Pair {
         });
         let mut at = 0;
         let mut answers = Vec::new();
-        for (game, lines) in games.iter().enumerate() {
+        for (game, calls) in games.iter().enumerate() {
             let mut given = Vec::new();
-            for call in 0..lines.len() {
-                for in_state in [false, true] {
+            for (call, lines) in calls.iter().enumerate() {
+                for (place, line) in lines.iter().enumerate() {
                     let (left, right) = (left.at(at), right.at(at));
                     at += 1;
                     if !same(&left, &right) {
-                        return Err(Difference { game, call, in_state, left, right });
+                        return Err(Difference { game, call, after: (place > 0).then(|| line.clone()), left, right });
                     }
-                    if !in_state {
+                    if place == 0 {
                         given.push(left);
                     }
                 }
@@ -67,11 +85,11 @@ impl Pair {
             return Ok(answers);
         }
         let last = games.len() - 1;
-        Err(Difference { game: last, call: games[last].len() - 1, in_state: true, left, right })
+        Err(Difference { game: last, call: games[last].len() - 1, after: Some("# the end".to_string()), left, right })
     }
 
     /// The first difference in one game.
-    pub fn difference(&self, game: &[String]) -> Option<Difference> {
-        self.play(&[game]).err()
+    pub fn difference(&self, game: &[String], lists: bool) -> Option<Difference> {
+        self.play(&[game], lists).err()
     }
 }

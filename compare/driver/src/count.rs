@@ -39,8 +39,9 @@ impl Counts {
         }
     }
 
-    pub fn print(&self) {
-        println!("  {} games, {} calls, a state after each; {} sizes, {} flag bytes", self.games, self.calls, self.sizes.len(), self.flags.len());
+    pub fn print(&self, lists: bool) {
+        let after = if lists { "a state and a legal list" } else { "a state" };
+        println!("  {} games, {} calls, {after} after each; {} sizes, {} flag bytes", self.games, self.calls, self.sizes.len(), self.flags.len());
         let names: BTreeSet<&String> = self.numbers.keys().map(|(name, _)| name).collect();
         for name in names {
             let row = self.numbers.iter().filter(|((other, _), _)| other == name);

@@ -52,6 +52,11 @@ impl Family {
         }
     }
 
+    /// Whether a legal list is asked for after every call: not where the crate has other ones, nor 590,000 times on boards of one row.
+    pub fn lists(self) -> bool {
+        matches!(self, Family::Square | Family::All)
+    }
+
     pub fn game(self, seed: u64, number: usize) -> Play {
         let mut random = Random::new(seed, number as u64);
         let (height, width) = match self {
@@ -62,7 +67,7 @@ impl Family {
             Family::Limit => return Play { lines: limit::games().swap_remove(number), steps: Vec::new() },
             Family::Words => return Play { lines: words::lines(&mut random), steps: Vec::new() },
         };
-        let scope = Scope { beyond_the_crate: self == Family::All, legal_lists: matches!(self, Family::Square | Family::All), flags: None };
+        let scope = Scope { beyond_the_crate: self == Family::All, legal_lists: self.lists(), flags: None };
         play(&mut random, scope, height, width)
     }
 }

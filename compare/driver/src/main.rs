@@ -39,6 +39,9 @@ one-hash prints a game on which a referee that compares hashes alone is wrong.
 gnugo plays random games on SIDE × SIDE by FLAGS, 0 to 3, through a referee and GNU Go.
 definitions writes a crate of specs into FOLDER: some thousand calls on small boards, CALLS more at random and LARGE games on 9×9 for the prover to compute.";
 
+/// Of a longer game only both ends are shown.
+const LONGEST_SHOWN: usize = 400;
+
 struct Wanted {
     pair: Pair,
     family: String,
@@ -110,11 +113,21 @@ fn play_all(wanted: &Wanted, family: Family, games: usize) -> bool {
     for first in (0..games).step_by(together) {
         let plays: Vec<Play> = (first..games.min(first + together)).map(|number| family.game(wanted.seed, number)).collect();
         let lines: Vec<&[String]> = plays.iter().map(|play| play.lines.as_slice()).collect();
-        match wanted.pair.play(&lines) {
+        match wanted.pair.play(&lines, family.lists()) {
             Ok(answers) => plays.iter().zip(&answers).for_each(|(play, answers)| counts.add(&play.lines, answers, &play.steps)),
             Err(found) => {
                 progress.end();
-                show(wanted, first + found.game, &plays[found.game].lines, &found);
+                let alike = counts.calls + lines[..found.game].iter().map(|game| game.len()).sum::<usize>() + found.call;
+                println!(
+                    "{} and {} differ: family {}, seed {}, game {}, call {}, after {alike} calls that were answered alike.",
+                    wanted.pair.left.name,
+                    wanted.pair.right.name,
+                    wanted.family,
+                    wanted.seed,
+                    first + found.game,
+                    found.call
+                );
+                show(&wanted.pair, lines[found.game], family.lists(), &found);
                 return false;
             }
         }
@@ -122,25 +135,23 @@ fn play_all(wanted: &Wanted, family: Family, games: usize) -> bool {
     }
     progress.end();
     println!("{} and {} agree, family {}, seed {}:", wanted.pair.left.name, wanted.pair.right.name, wanted.family, wanted.seed);
-    counts.print();
+    counts.print(family.lists());
     true
 }
 
 /// Shrinks the game and prints it with both answers at its end.
-fn show(wanted: &Wanted, number: usize, lines: &[String], found: &Difference) {
-    let pair = &wanted.pair;
-    println!(
-        "{} and {} differ: family {}, seed {}, game {}, call {}.",
-        pair.left.name, pair.right.name, wanted.family, wanted.seed, number, found.call
-    );
-    let (small, small_found) = shrink::shrink(pair, lines, found);
+fn show(pair: &Pair, lines: &[String], lists: bool, found: &Difference) {
+    let (small, found) = shrink::shrink(pair, lines, lists, found);
     println!("The smallest game found:");
-    small.iter().for_each(|line| println!("{line}"));
-    if small_found.in_state {
-        println!("state");
+    let (ends, between) = if small.len() > LONGEST_SHOWN { (LONGEST_SHOWN / 2, small.len() - LONGEST_SHOWN) } else { (small.len(), 0) };
+    small[..ends].iter().for_each(|line| println!("{line}"));
+    if between > 0 {
+        println!("# {between} lines between");
+        small[ends + between..].iter().for_each(|line| println!("{line}"));
     }
-    println!("  {}: {}", pair.left.name, small_found.left);
-    println!("  {}: {}", pair.right.name, small_found.right);
+    found.after.iter().for_each(|line| println!("{line}"));
+    println!("  {}: {}", pair.left.name, found.left);
+    println!("  {}: {}", pair.right.name, found.right);
 }
 
 /// A line that is written over on a terminal, and now and then a line elsewhere.

@@ -1,12 +1,18 @@
 //! Makes a game with a difference small: lines, rows, columns and flags are left out while the two still part.
 
 use crate::compare::{Difference, Pair};
+use std::time::{Duration, Instant};
+
+/// A game of 65,535 stones has too many lines to try them all.
+const LONGEST: Duration = Duration::from_secs(30);
 
 /// Pairs of lines are tried in games up to this many lines.
 const LONGEST_FOR_PAIRS: usize = 40;
 
 struct Shrinker<'a> {
     pair: &'a Pair,
+    lists: bool,
+    began: Instant,
     game: Vec<String>,
     found: Difference,
     /// Whether the first difference was one where a side has no answer to give; else such ones are not followed.
@@ -14,23 +20,28 @@ struct Shrinker<'a> {
 }
 
 /// A smaller game that still shows a difference, cut off at it.
-pub fn shrink(pair: &Pair, game: &[String], found: &Difference) -> (Vec<String>, Difference) {
-    let mut shrinker = Shrinker { pair, game: game[..=found.call].to_vec(), found: found.clone(), takes_beyond: found.is_beyond() };
+pub fn shrink(pair: &Pair, game: &[String], lists: bool, found: &Difference) -> (Vec<String>, Difference) {
+    let game = game[..=found.call].to_vec();
+    let mut shrinker = Shrinker { pair, lists, began: Instant::now(), game, found: found.clone(), takes_beyond: found.is_beyond() };
     loop {
         let before = shrinker.game.clone();
         shrinker.drop_lines();
         shrinker.drop_pairs();
         shrinker.drop_rows_and_columns();
         shrinker.simplify_the_start();
-        if shrinker.game == before {
+        if shrinker.game == before || !shrinker.has_time() {
             return (shrinker.game, shrinker.found);
         }
     }
 }
 
 impl Shrinker<'_> {
+    fn has_time(&self) -> bool {
+        self.began.elapsed() < LONGEST
+    }
+
     fn take_if_it_differs(&mut self, candidate: Vec<String>) -> bool {
-        match self.pair.difference(&candidate) {
+        match self.pair.difference(&candidate, self.lists) {
             Some(found) if self.takes_beyond || !found.is_beyond() => {
                 self.game = candidate[..=found.call].to_vec();
                 self.found = found;
@@ -45,7 +56,7 @@ impl Shrinker<'_> {
         let mut size = self.game.len() / 2;
         while size > 0 {
             let mut from = 1;
-            while from < self.game.len() {
+            while from < self.game.len() && self.has_time() {
                 let to = (from + size).min(self.game.len());
                 let shorter = [&self.game[..from], &self.game[to..]].concat();
                 if shorter.len() < 2 || !self.take_if_it_differs(shorter) {

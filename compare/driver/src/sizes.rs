@@ -15,7 +15,7 @@ pub fn tell(pair: &Pair, seed: u64, games: usize) {
                 let scope = Scope { beyond_the_crate: false, legal_lists, flags: None };
                 (0..games as u64).all(|number| {
                     let game = play(&mut Random::new(seed, number), scope, height, width);
-                    pair.difference(&game.lines).is_none()
+                    pair.difference(&game.lines, legal_lists).is_none()
                 })
             };
             let size = format!("{height}x{width}");
