@@ -39,8 +39,9 @@ one-hash prints a game on which a referee that compares hashes alone is wrong.
 gnugo plays random games on SIDE × SIDE by FLAGS, 0 to 3, through a referee and GNU Go.
 definitions writes a crate of specs into FOLDER: some thousand calls on small boards, CALLS more at random and LARGE games on 9×9 for the prover to compute.";
 
-/// Of a longer game only both ends are shown.
+/// Of a longer game only so many lines at both ends are shown.
 const LONGEST_SHOWN: usize = 400;
+const ENDS_SHOWN: usize = 10;
 
 struct Wanted {
     pair: Pair,
@@ -143,13 +144,12 @@ fn play_all(wanted: &Wanted, family: Family, games: usize) -> bool {
 fn show(pair: &Pair, lines: &[String], lists: bool, found: &Difference) {
     let (small, found) = shrink::shrink(pair, lines, lists, found);
     println!("The smallest game found:");
-    let (ends, between) = if small.len() > LONGEST_SHOWN { (LONGEST_SHOWN / 2, small.len() - LONGEST_SHOWN) } else { (small.len(), 0) };
-    small[..ends].iter().for_each(|line| println!("{line}"));
-    if between > 0 {
-        println!("# {between} lines between");
-        small[ends + between..].iter().for_each(|line| println!("{line}"));
+    let hidden = if small.len() > LONGEST_SHOWN { ENDS_SHOWN..small.len() - ENDS_SHOWN } else { 0..0 };
+    small[..hidden.start].iter().for_each(|line| println!("{line}"));
+    if !hidden.is_empty() {
+        println!("# {} lines between", hidden.len());
     }
-    found.after.iter().for_each(|line| println!("{line}"));
+    small[hidden.end..].iter().chain(&found.after).for_each(|line| println!("{line}"));
     println!("  {}: {}", pair.left.name, found.left);
     println!("  {}: {}", pair.right.name, found.right);
 }

@@ -25,6 +25,7 @@ pub fn shrink(pair: &Pair, game: &[String], lists: bool, found: &Difference) -> 
     let mut shrinker = Shrinker { pair, lists, began: Instant::now(), game, found: found.clone(), takes_beyond: found.is_beyond() };
     loop {
         let before = shrinker.game.clone();
+        shrinker.drop_games();
         shrinker.drop_lines();
         shrinker.drop_pairs();
         shrinker.drop_rows_and_columns();
@@ -48,6 +49,16 @@ impl Shrinker<'_> {
                 true
             }
             _ => false,
+        }
+    }
+
+    /// What comes before another new game.
+    fn drop_games(&mut self) {
+        let starts = (1..self.game.len()).rev().filter(|&line| self.game[line].starts_with("new "));
+        for start in starts.collect::<Vec<_>>() {
+            if self.take_if_it_differs(self.game[start..].to_vec()) {
+                return;
+            }
         }
     }
 
