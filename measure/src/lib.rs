@@ -1,5 +1,8 @@
-//! What the two programs share: the static library's calls, chance, and a thread's stack.
+//! What the two programs share: chance, times, and a thread's stack.
 
-pub mod border;
 pub mod random;
 pub mod stack;
+pub mod times;
+
+/// A history that is never full in these games.
+pub const HISTORY_BYTES: usize = samtrekhu::raw::RECORD_BYTES * 6_000;
