@@ -1,6 +1,5 @@
-//! What the two programs share: chance, times, and a thread's stack.
+//! What the two programs share: times, and a thread's stack.
 
-pub mod random;
 pub mod stack;
 pub mod times;
 

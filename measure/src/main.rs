@@ -1,7 +1,6 @@
 //! The time of each call on the same positions of random games: ours, the crate's and a plain referee's. Then how ours grows with the size of
 //! the board, the stones on it and the records in the history.
 
-use measure::random::Random;
 use measure::times::Times;
 use measure::HISTORY_BYTES;
 use oracle::rules::game::Game as Crate;
@@ -9,6 +8,7 @@ use oracle::rules::{GobanSizes, IllegalRules, Move as Play, Rule, CHINESE};
 use plain::slips::Slip;
 use plain::Game as Plain;
 use plain::Reason;
+use random::Random;
 use samtrekhu::raw::*;
 
 /// Flags as the crate has them: 1 KO, 2 SUICIDE, 4 FILLEYE, 8 SUPERKO.
@@ -45,7 +45,7 @@ impl Row {
 const STONES: usize = 250;
 
 fn times(side: u8, flags: u8, games: usize, history: &mut [u8]) {
-    let mut random = Random(88_172_645_463_325_252);
+    let mut random = Random::new(1, 0);
     let [mut stone, mut in_place, mut judge, mut pass, mut check, mut legals, mut picture, mut replay]: [Row; 8] = Default::default();
     let mut buffer = [0u16; MAX_AREA];
     let mut bytes = [0u8; PICTURE_BYTES];
@@ -57,7 +57,7 @@ fn times(side: u8, flags: u8, games: usize, history: &mut [u8]) {
         let mut tries = 0;
         while played.len() < STONES && tries < 20 * STONES {
             tries += 1;
-            let (row, column) = (random.below(side), random.below(side));
+            let (row, column) = (random.below(side.into()) as u8, random.below(side.into()) as u8);
             let (at, length) = (history.as_mut_ptr(), history.len());
             let checked = check.ours.add(|| unsafe { samtrekhu_check_point_by(game, at, length, flags, row, column) });
             let expected = check.crates.add(|| theirs.check_point_by((row, column), rules(flags)));
@@ -128,7 +128,7 @@ fn position(side: u8, stones: usize, random: &mut Random, history: &mut [u8]) ->
     let mut tries = 0;
     while usize::from(game.accepted) < stones && tries < 100 * stones {
         tries += 1;
-        unsafe { samtrekhu_stone_in_place(&mut game, history.as_mut_ptr(), history.len(), random.below(side), random.below(side)) };
+        unsafe { samtrekhu_stone_in_place(&mut game, history.as_mut_ptr(), history.len(), random.below(side.into()) as u8, random.below(side.into()) as u8) };
     }
     game
 }
@@ -138,14 +138,14 @@ fn grows(name: &str, of: &[usize], mut make: impl FnMut(usize, &mut Random, &mut
     println!("{name}: stone in place, judge, check of a point, legal list, all with flags 11");
     let mut buffer = [0u16; MAX_AREA];
     for &amount in of {
-        let mut random = Random(4_294_967_311);
+        let mut random = Random::new(2, 0);
         let [mut stone, mut judge, mut check, mut legals]: [Times; 4] = Default::default();
         for _ in 0..10 {
             let game = make(amount, &mut random, history);
             let side = game.board.height;
             let (at, length) = (history.as_mut_ptr(), history.len());
             for _ in 0..100 {
-                let (row, column) = (random.below(side), random.below(side));
+                let (row, column) = (random.below(side.into()) as u8, random.below(side.into()) as u8);
                 if check.add(|| unsafe { samtrekhu_check_point(game, at, length, row, column) }) == 0 {
                     let mut copy = game;
                     stone.add(|| unsafe { samtrekhu_stone_in_place(&mut copy, at, length, row, column) });
@@ -176,7 +176,7 @@ fn main() {
     // What the records hold is taken as it stands, so any bytes will do.
     let recorded = |records: usize, random: &mut Random, history: &mut [u8]| {
         let mut game = position(MAX_SIDE, 150, random, history);
-        history[..RECORD_BYTES * records].iter_mut().for_each(|byte| *byte = random.below(u8::MAX));
+        history[..RECORD_BYTES * records].iter_mut().for_each(|byte| *byte = random.byte());
         game.records = records;
         game
     };

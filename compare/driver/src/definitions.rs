@@ -4,7 +4,7 @@ use crate::antt::{self, Said};
 use crate::call::Call;
 use crate::generate::{self, Scope, Step};
 use crate::program::Program;
-use crate::random::Random;
+use random::Random;
 use crate::sample;
 use plain::Reason;
 use std::collections::BTreeMap;

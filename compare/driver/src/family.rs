@@ -1,7 +1,7 @@
 //! The families of games: which sizes, and which calls.
 
 use crate::generate::{self, Scope, Step};
-use crate::random::Random;
+use random::Random;
 use crate::{limit, words};
 
 #[derive(Clone, Copy, PartialEq, Eq)]

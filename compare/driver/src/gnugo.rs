@@ -4,7 +4,7 @@
 use crate::call::Call;
 use crate::generate::{self, Scope};
 use crate::program::Program;
-use crate::random::Random;
+use random::Random;
 use plain::board::{Board, BLACK, EMPTY, WHITE};
 use std::collections::BTreeSet;
 

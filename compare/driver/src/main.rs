@@ -12,7 +12,6 @@ mod kinds;
 mod limit;
 mod one_hash;
 mod program;
-mod random;
 mod sample;
 mod shrink;
 mod sizes;

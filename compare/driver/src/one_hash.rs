@@ -44,7 +44,7 @@ fn entry(stone: Stone) -> u64 {
 
 /// Stones on points that are no neighbours of each other, whose entries give that of the last stone, by Gaussian elimination.
 fn cancelling(last: Stone, taken: &[usize], tries: u64) -> Option<Vec<Stone>> {
-    let mut random = crate::random::Random::new(tries, 0);
+    let mut random = random::Random::new(tries, 0);
     let mut stones: Vec<Stone> = (0..SIDE * SIDE)
         .filter(|point| (point / SIDE).is_multiple_of(2) && (point % SIDE).is_multiple_of(2) && *point != last.0 && !taken.contains(point))
         .map(|point| (point, *random.of(&[BLACK, WHITE])))

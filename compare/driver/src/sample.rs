@@ -3,7 +3,7 @@
 use crate::call::{follow, Call};
 use crate::generate::{self, Scope, Step};
 use crate::kinds::kinds;
-use crate::random::Random;
+use random::Random;
 use plain::slips::Slip;
 use plain::{Game, Reason};
 use std::collections::{BTreeMap, BTreeSet};

@@ -3,7 +3,7 @@
 use crate::compare::Pair;
 use crate::family::play;
 use crate::generate::Scope;
-use crate::random::Random;
+use random::Random;
 
 pub fn tell(pair: &Pair, seed: u64, games: usize) {
     let mut alike = Vec::new();

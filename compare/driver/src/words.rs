@@ -1,6 +1,6 @@
 //! Lines of every kind, most of them no calls.
 
-use crate::random::Random;
+use random::Random;
 
 /// Set apart by bars; one is empty.
 const SOME: &str = "|#|# a word|#stone 0 0|foo|stone|stone 0|stone 0 0|stone 0 0 0|stone a 0|stone 0 b|stone -1 0|stone +1 0|stone 1,0|stone 1.0 0\

@@ -1,7 +1,7 @@
 //! The library's calls that take a state, each made on lent memory with guards around it.
 
 use crate::made::nothing;
-use crate::random::Random;
+use random::Random;
 use samtrekhu::raw::*;
 
 /// What a call judges.
@@ -195,7 +195,7 @@ pub struct Desk {
 impl Desk {
     pub fn new(seed: u64) -> Desk {
         let (history, list, bytes) = (Lent::new(0xC3), Lent::new(0xC3C3), Lent::new(0xC3));
-        Desk { given: nothing(), back: nothing(), history, list, bytes, random: Random(seed) }
+        Desk { given: nothing(), back: nothing(), history, list, bytes, random: Random::new(seed, 0) }
     }
 
     /// Lends so much of a history, and buffers that are long enough or not.

@@ -81,7 +81,7 @@ mod tests {
     //! Calls that do wrong are noticed, each for what it does.
     use super::*;
     use crate::play::fresh;
-    use crate::random::Random;
+    use random::Random;
 
     /// What is said of this call on a new game, damaged or not, and 250 bytes of history of which 200 can be used.
     fn said(damaged: bool, judges: Judges, gives: Gives, make: fn(&mut Desk) -> u8) -> String {
@@ -91,7 +91,7 @@ mod tests {
             desk.given.board.hash = 1;
         }
         desk.back = desk.given.clone();
-        desk.lend(&[7; 300], 250, &mut Random(1));
+        desk.lend(&[7; 300], 250, &mut Random::new(1, 0));
         let verdict = Verdict::of(&Judge::new(), &desk.given, 250);
         assert_eq!(verdict.differs(&desk.given, 250), None);
         wrong(&Call { name: "", judges, gives, make }, &mut desk, &verdict, &Judge::new()).unwrap_or_default()

@@ -11,7 +11,7 @@ mod slots;
 mod sums;
 
 use crate::made::{area, beside, hash, hold, joined, lay_out, liberties, settle, stones, FREE};
-use crate::random::Random;
+use random::Random;
 use samtrekhu::raw::{Chain, Game, LIBERTY_BYTES, MAX_AREA, NO_CHAIN, SLOTS};
 use std::sync::LazyLock;
 
@@ -48,7 +48,7 @@ impl Scene<'_> {
     fn wild(&mut self, value: u64, most: u64) -> u64 {
         let random = &mut *self.random;
         let wild = match random.below(8) {
-            0 => random.number(),
+            0 => random.next(),
             1 => value.wrapping_add(1),
             2 => value.wrapping_sub(1),
             3 => 0,
@@ -134,7 +134,7 @@ impl Scene<'_> {
     fn random_chain(&mut self) -> Chain {
         let mut chain = FREE;
         chain.liberties.iter_mut().for_each(|byte| *byte = self.random.byte());
-        (chain.colour, chain.origin, chain.last) = (self.random.byte(), self.random.number() as u16, self.random.number() as u16);
+        (chain.colour, chain.origin, chain.last) = (self.random.byte(), self.random.next() as u16, self.random.next() as u16);
         chain
     }
 

@@ -6,6 +6,5 @@ pub mod damage;
 pub mod judge;
 pub mod made;
 pub mod play;
-pub mod random;
 pub mod run;
 pub mod text;

@@ -1,7 +1,7 @@
 //! States made by hand: slots that hold given points, boards from colours (a chain without liberty is not refused), sums that hold.
 
 use crate::judge::{neighbours, stone_hash};
-use crate::random::Random;
+use random::Random;
 use samtrekhu::raw::colours::{BLACK, WHITE};
 use samtrekhu::raw::{Board, Chain, Game, Tally, LIBERTY_BYTES, MAX_AREA, NO_CHAIN, NO_POINT, SLOTS};
 

@@ -1,7 +1,7 @@
 //! True states: random games played through the library, of all sizes and flags, with handicaps, passes, resignations, captures and kos.
 
 use crate::made::{beside, nothing};
-use crate::random::Random;
+use random::Random;
 use samtrekhu::raw::*;
 
 pub struct Played {

@@ -5,7 +5,7 @@ use crate::check::{wrong, Verdict};
 use crate::damage::{Scene, KINDS};
 use crate::judge::Judge;
 use crate::play::{fresh, Played};
-use crate::random::Random;
+use random::Random;
 use crate::text;
 use samtrekhu::raw::*;
 use std::thread;
@@ -116,7 +116,7 @@ pub fn shrunk(plan: &Plan, found: Found) -> Found {
 }
 
 fn work(plan: &Plan) -> Result<Table, Found> {
-    let mut random = Random(plan.seed);
+    let mut random = Random::new(plan.seed, 0);
     let mut desk = Desk::new(plan.seed ^ 0x5EED);
     let (kinds, calls) = (vec![Row::default(); KINDS.len()], vec![[0; 2]; CALLS.len()]);
     let mut table = Table { kinds, several: Default::default(), calls, sizes: [0; 5] };

@@ -1,8 +1,8 @@
 //! What a call costs beside time: its deepest stack, and how often it copies a board or more.
 
-use measure::random::Random;
 use measure::stack;
 use measure::HISTORY_BYTES;
+use random::Random;
 use samtrekhu::raw::*;
 use std::ffi::c_void;
 use std::hint::black_box;
@@ -137,7 +137,7 @@ fn main() {
     let calls = calls();
     let mut costs = vec![Cost { stack: 0, copies: (usize::MAX, 0) }; calls.len()];
     let idle = stack::touched(&mut || ());
-    let mut random = Random(7);
+    let mut random = Random::new(3, 0);
     for flags in [0, 3, 15] {
         let fresh = samtrekhu_new_game(MAX_SIDE, MAX_SIDE, flags).game;
         let mut asked = Box::new(Asked {
@@ -152,7 +152,7 @@ fn main() {
             colours: vec![0; MAX_AREA],
         });
         for _ in 0..400 {
-            (asked.row, asked.column) = (random.below(MAX_SIDE), random.below(MAX_SIDE));
+            (asked.row, asked.column) = (random.below(MAX_SIDE.into()) as u8, random.below(MAX_SIDE.into()) as u8);
             let game = asked.game;
             unsafe { samtrekhu_to_vec(game.board, asked.colours.as_mut_ptr(), MAX_AREA) };
             for (cost, (_, call)) in costs.iter_mut().zip(&calls) {

@@ -76,13 +76,13 @@ kinds! {
     },
     "all bytes random": |s| {
         let random = &mut *s.random;
-        bytes(s.game).chunks_mut(8).for_each(|eight| eight.copy_from_slice(&random.number().to_le_bytes()[..eight.len()]));
+        bytes(s.game).chunks_mut(8).for_each(|eight| eight.copy_from_slice(&random.next().to_le_bytes()[..eight.len()]));
         Some(())
     },
     "all bytes random, size and flags right": |s| {
         let (height, width) = (s.game.board.height, s.game.board.width);
         let random = &mut *s.random;
-        bytes(s.game).chunks_mut(8).for_each(|eight| eight.copy_from_slice(&random.number().to_le_bytes()[..eight.len()]));
+        bytes(s.game).chunks_mut(8).for_each(|eight| eight.copy_from_slice(&random.next().to_le_bytes()[..eight.len()]));
         (s.game.board.height, s.game.board.width) = (height, width);
         s.game.flags &= 15;
         Some(())

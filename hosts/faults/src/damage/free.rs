@@ -60,7 +60,7 @@ kinds! {
     "links of empty points and beyond random": |s| {
         for point in 0..MAX_AREA {
             if s.game.board.owners[point] == NO_CHAIN {
-                s.game.board.next[point] = if s.random.one_in(2) { s.random.number() as u16 } else { s.random.below(MAX_AREA) as u16 };
+                s.game.board.next[point] = if s.random.one_in(2) { s.random.next() as u16 } else { s.random.below(MAX_AREA) as u16 };
             }
         }
         Some(())

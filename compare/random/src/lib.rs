@@ -18,6 +18,10 @@ impl Random {
         mixed ^ (mixed >> 31)
     }
 
+    pub fn byte(&mut self) -> u8 {
+        self.next() as u8
+    }
+
     /// A number below a bound that is not 0.
     pub fn below(&mut self, bound: usize) -> usize {
         (self.next() % bound as u64) as usize
@@ -29,6 +33,26 @@ impl Random {
 
     pub fn percent(&mut self, chance: usize) -> bool {
         self.below(100) < chance
+    }
+
+    pub fn one_in(&mut self, times: usize) -> bool {
+        self.below(times) == 0
+    }
+
+    pub fn shuffle<T>(&mut self, row: &mut [T]) {
+        for end in (1..row.len()).rev() {
+            let at = self.below(end + 1);
+            row.swap(at, end);
+        }
+    }
+
+    /// One of some, if there is one.
+    pub fn pick<T: Copy>(&mut self, from: &[T]) -> Option<T> {
+        if from.is_empty() {
+            None
+        } else {
+            Some(*self.of(from))
+        }
     }
 
     pub fn of<'a, T>(&mut self, choices: &'a [T]) -> &'a T {
