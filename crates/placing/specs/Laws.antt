@@ -3,6 +3,7 @@ pub mod Colours
 pub mod Answers
 pub mod Choked
 pub mod Untaken
+pub mod Added
 pub mod NewBoard
 pub mod SoFar
 pub mod Spots

@@ -16,7 +16,6 @@ use Rattle.board.specs.declared.goban.Board.{Board}
 use Rattle.board.specs.Board.{coloursOf, newBoard}
 use Rattle.board.specs.True.{TrueBoard}
 use Rattle.placing.specs.declared.handicap.Marked.{Marked}
-use Rattle.placing.specs.declared.place.Added.{Added}
 use Rattle.placing.specs.declared.place.Placed.{Placed}
 
 -- a true board of this height and width with these colours
@@ -45,10 +44,6 @@ pub record Adding (b : Board) (p c : ℕ) : Type 0 where
   pub on : p < area (b .height) (b .width)
   pub vacant : at (coloursOf b) p ≡ empty
   pub known : c ≤ white
-
-pub record AddedTo (b : Board) (p c : ℕ) (r : Added) : Type 0 where
-  pub fine : r .choked ≡ false → Stands (b .height) (b .width) (coloured (coloursOf b) c p) (r .board)
-  pub stuck : r .choked ≡ true → Stuck (b .height) (b .width) (coloured (coloursOf b) c p)
 
 -- ---- Colours on an empty board
 

@@ -13,24 +13,18 @@ use points::sizes::MAX_SIDE;
 use points::stones::EMPTY;
 use points::stones::WHITE;
 ghost use mathlib.Core.Path.{_≡_};
-ghost use mathlib.Core.Bool.{_&&_};
-ghost use lib.Dec.{ltb};
+ghost use mathlib.Core.Bool.{not, _&&_};
+ghost use lib.Dec.{eqb, ltb};
 ghost use Rattle.rules.specs.Lists.{any};
 ghost use Rattle.rules.specs.Colours.{white};
 ghost use Rattle.rules.specs.Calls.{sideOk};
 ghost use Rattle.board.specs.Board.{newBoard};
-ghost use Rattle.placing.specs.Placing.{Adding, AddedTo, Placing, PlacedOn, NewBoard, FromColours};
+ghost use Rattle.placing.specs.Placing.{Placing, PlacedOn, NewBoard, FromColours};
 
 // What a call that makes a board gives: the answer, and the board.
 #[repr(C)]
 pub struct Placed {
     pub answer: u8,
-    pub board: Board,
-}
-
-// A board with one stone more, unless that stone chokes a chain.
-pub struct Added {
-    pub choked: bool,
     pub board: Board,
 }
 
@@ -81,35 +75,11 @@ fn any_unknown(colours: &[u8]) -> bool
     false
 }
 
-// One stone more on an empty point, or none where the colour is empty.
-fn add(board: Board, point: usize, colour: u8) -> Added
-    requires { ⌜ Adding board point colour ⌝ }
-    ensures { λ r. ⌜ AddedTo board point colour r ⌝ }
+// A stone that takes or loses stones shows a chain without liberty.
+fn chokes(taken: u16, lost: u16) -> bool
+    ensures { λ r. ⌜ r ≡ not (eqb taken 0 && eqb lost 0) ⌝ }
 {
-    if colour == EMPTY {
-        return Added {
-            choked: false,
-            board,
-        };
-    }
-    let laid = lay(board, point, colour, 0);
-    if laid.taken != 0 {
-        return Added {
-            choked: true,
-            board,
-        };
-    }
-    if laid.lost != 0 {
-        return Added {
-            choked: true,
-            board,
-        };
-    }
-    let after = laid.board;
-    Added {
-        choked: false,
-        board: after,
-    }
+    taken != 0 || lost != 0
 }
 
 // The colours laid on an empty board; where a chain of them has no liberty, the board as it came.
@@ -120,15 +90,18 @@ pub fn place(board: Board, colours: &[u8]) -> Placed
     let mut result = board;
     let mut point = 0;
     while point < colours.len() {
-        let added = add(result, point, colours[point]);
-        if added.choked {
-            return Placed {
-                answer: NO_LIBERTY,
-                board,
-            };
+        let colour = colours[point];
+        if colour != EMPTY {
+            let laid = lay(result, point, colour, 0);
+            if chokes(laid.taken, laid.lost) {
+                return Placed {
+                    answer: NO_LIBERTY,
+                    board,
+                };
+            }
+            let after = laid.board;
+            result = after;
         }
-        let after = added.board;
-        result = after;
         point += 1;
     }
     Placed {

@@ -1,10 +1,14 @@
 -- `placing::place::place`: the first points stand as given, the others are empty; a stone that chokes a chain now chokes it in the whole. The
 -- measure is how many points are left.
-use mathlib.Core.Path.{refl, sym}
+use mathlib.Core.Path.{refl, sym, subst}
+use mathlib.Core.Logic.{⊎-elim}
+use borrow.Author.Needs.{needs}
 use Prim.Native.Nat.{_≤_, _-_}
 use native.Mathlib.Omega.{arith}
 use lib.ListN.{length}
+use Rattle.placing.specs.Placing.{Stands, Adding}
 use Rattle.placing.specs.Laws.SoFar.{SoFar, so-far-none, so-far-on, so-far-next, so-far-stuck, so-far-all, stands-free}
+use Rattle.placing.specs.Laws.Added.{added-none, added-laying, added-stuck, added-stone}
 use Rattle.rules.specs.Laws.Answers.{refuses, passes}
 use Rattle.placing.specs.Laws.Answers.{outcome-refused, outcome-accepted, outcome-as}
 use Rattle.rules.specs.Colours.{at}
@@ -21,28 +25,47 @@ abbrev μ-loop : tie.MeasureT-loop
 loop-holds : tie.Need-loop-holds Inv-loop μ-loop
 loop-holds c = (omega arith, so-far-none _ _ (c .before .pre))
 
-shared-slice-read-add : tie.Need-shared-slice-read-add Inv-loop μ-loop
-shared-slice-read-add c = omega arith
+abbrev Turn : Type 0
+Turn = tie.After-shared-slice-known2 Inv-loop μ-loop
 
-add-requires : tie.Need-add-requires Inv-loop μ-loop
-unfolding at
-add-requires c κs =
-    let l = c .before .before .loop in
-    let start = c .before .before .before .before in
+abbrev loop : Turn → tie.At-loop Inv-loop μ-loop
+loop c = c .before .before
+
+abbrev start : Turn → tie.Start Inv-loop μ-loop
+start c = loop c .before .before
+
+shared-slice-read-colour : tie.Need-shared-slice-read-colour Inv-loop μ-loop
+shared-slice-read-colour c = omega arith
+
+-- the point whose turn it is may get its colour
+adding : (c : Turn) → Adding (loop c .loop .result) (loop c .loop .point) (at (start c .args .colours .now) (loop c .loop .point))
+adding c =
+    let l = loop c .loop in
     record {
       isTrue = l .inv .1 .isTrue;
-      on = so-far-on _ _ _ (start .pre .covers) (l .point) (l .result) (l .inv .1) (omega arith);
+      on = so-far-on _ _ _ (start c .pre .covers) (l .point) (l .result) (l .inv .1) (omega arith);
       vacant = l .inv .1 .rest (l .point) (omega arith);
-      known = start .pre .known (l .point);
+      known = start c .pre .known (l .point);
     }
+
+lay-requires : tie.Need-lay-requires Inv-loop μ-loop
+unfolding at
+lay-requires c κs = added-laying _ _ _ (adding (c .before)) (c .if1 .taken)
+
+chokes-requires : tie.Need-chokes-requires Inv-loop μ-loop
+chokes-requires c κs = search needs
 
 returns : tie.Need-returns Inv-loop μ-loop
 unfolding at number accepts
 returns c =
-    let l = c .before .before .before .before .loop in
-    let start = c .before .before .before .before .before .before in
+    let laid = c .before .before in
+    let turn = laid .before .before in
+    let l = loop turn .loop in
     outcome-as
-    (sym (refuses NoLiberty (so-far-stuck _ _ _ (start .pre .covers) (l .point) (l .result) (l .inv .1) (omega arith) (c .before .add .ensures .stuck (c .if1 .taken)))))
+    (sym
+    (refuses NoLiberty
+    (so-far-stuck _ _ _ (start turn .pre .covers) (l .point) (l .result) (l .inv .1) (omega arith)
+    (added-stuck _ _ _ (adding turn) (laid .before .if1 .taken) _ (laid .lay .ensures) _ (c .before .chokes .ensures) (c .if2 .taken)))))
     (outcome-refused refl refl refl)
 
 add-point : tie.Need-add-point Inv-loop μ-loop
@@ -54,10 +77,15 @@ loop-less c = omega arith
 loop-again : tie.Need-loop-again Inv-loop μ-loop
 unfolding at
 loop-again c =
-    let l = c .before .before .before .before .before .loop in
-    let start = c .before .before .before .before .before .before .before in (
+    let turn = c .before in
+    let l = loop turn .loop in (
       omega arith,
-      so-far-next _ _ _ (start .pre .covers) (l .point) (l .result) (l .inv .1) (omega arith) _ (c .before .before .add .ensures .fine (c .before .if1 .left)),
+      so-far-next _ _ _ (start turn .pre .covers) (l .point) (l .result) (l .inv .1) (omega arith) _
+          (⊎-elim
+          (λ (stone, laid, chokes, fine, after, e).
+          subst (Stands _ _ _) (sym e) (added-stone _ _ _ (adding turn) (stone .taken) _ (laid .ensures) _ (chokes .ensures) (fine .left)))
+          (λ (none, e). subst (Stands _ _ _) (sym e) (added-none _ _ _ (adding turn) (none .left)))
+          (c .if1 .came)),
     )
 
 returns-2 : tie.Need-returns-2 Inv-loop μ-loop
@@ -75,8 +103,9 @@ place-spec =
     Inv-loop
     μ-loop
     loop-holds
-    shared-slice-read-add
-    add-requires
+    shared-slice-read-colour
+    lay-requires
+    chokes-requires
     returns
     add-point
     loop-less
