@@ -1,3 +1,3 @@
 -- What the walks by hand share.
 mod Again
-mod Values
+pub mod Values

@@ -1,0 +1,3 @@
+-- What the walks by hand share.
+mod Stores
+mod Alone
