@@ -1,6 +1,6 @@
 -- Laws of the facts: a ko point is a number below that of none, and two answers that meet the promise are the same.
 use mathlib.Core.Path.{_≡_, refl, sym, ap, _∙_}
-use mathlib.Core.Bool.{Bool, true, false}
+use mathlib.Core.Bool.{true}
 use mathlib.Core.Logic.{⊎-elim}
 use mathlib.Core.Option.{Option, none, some, Option·none-ne-some}
 use Prim.Native.Nat.{ℕ, _<_}
@@ -10,7 +10,7 @@ use Rattle.board.specs.Laws.Board.{area-fits}
 use Rattle.points.specs.Place.{placeOf, Within}
 use Rattle.game.specs.declared.state.Game.{Game}
 use Rattle.game.specs.declared.asks.Facts as asks
-use Rattle.game.specs.View.{noPoint, viewOf, TrueState}
+use Rattle.game.specs.View.{noPoint, TrueState}
 use Rattle.game.specs.Asks as asked
 use Rattle.border.specs.declared.facts.Facts.{Facts}
 use Rattle.border.specs.Facts.{Asked}

@@ -1,8 +1,6 @@
 -- Each field is one of the game's facts, or the number of one.
-use mathlib.Core.Path.{_≡_, refl, ap, _∙_}
+use mathlib.Core.Path.{ap, _∙_}
 use Rattle.rules.specs.Answers.{number}
-use Rattle.points.specs.Place.{placeOf}
-use Rattle.game.specs.declared.asks.Facts as inner
 use Rattle.game.specs.Asks as asked
 use Rattle.border.specs.Facts.{koNumber, outcomeNumber, noFacts, factsOf}
 use Rattle.border.specs.Laws.Facts.{ko-within}
