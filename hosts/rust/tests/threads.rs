@@ -7,10 +7,10 @@ use random::Random;
 use samtrekhu::{Board, Colour, Flags, Game, Move, Player, Point, Refusal};
 use std::thread;
 
-/// A thread of this size has room for every call but one.
+/// A thread of this size has room for every call but a replay.
 const STACK: usize = 262_144;
-/// A replay takes nearly all of that by itself, so that the thread needs some more for its own start.
-const REPLAY_STACK: usize = STACK + 16_384;
+/// A replay in place takes about 276,000 bytes, the thread's own start some thousand more.
+const REPLAY_STACK: usize = STACK + 32_768;
 
 /// Every question of a game and of its board at one point, whatever they answer.
 fn ask(game: &Game, point: Point) -> Result<(), Refusal> {
