@@ -20,13 +20,14 @@ static void run(void *at)
 
 int main(void)
 {
-    /* what was printed is seen also where a stack is too small */
-    setvbuf(stdout, NULL, _IOLBF, BUFSIZ);
+    /* a part that ends by a signal has its name printed */
+    setvbuf(stdout, NULL, _IONBF, 0);
     for (size_t i = 0; i < sizeof parts / sizeof parts[0]; i++) {
         size_t before = checks, failed = failures;
         Part part = parts[i];
+        printf("%s: ", part.name);
         end_on_stack(start_on_stack(run, &part));
-        printf("%s: %zu checks, %zu failed\n", part.name, checks - before, failures - failed);
+        printf("%zu checks, %zu failed\n", checks - before, failures - failed);
     }
     /* every number was answered, and no other */
     for (unsigned number = 0; number < 256; number++) {
