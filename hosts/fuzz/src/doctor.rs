@@ -1,6 +1,7 @@
 //! States and histories changed by hand. Some of the changes leave a true state, so that calls go far; most do not.
 
 use crate::input::Cell;
+use crate::meaning;
 use crate::memory::boxed;
 use crate::model;
 use plain::board::{BLACK, EMPTY, WHITE};
@@ -35,6 +36,16 @@ fn point(board: &Board, byte: u8, more: u8) -> usize {
     }
 }
 
+/// A ko point where it may matter, if there is such a place.
+fn ko(board: &Board, byte: u8, more: u8) -> u16 {
+    let aims = meaning::aims(board, raw::NO_POINT);
+    if aims.is_empty() || more >= 200 {
+        point(board, byte, more) as u16
+    } else {
+        aims[byte as usize % aims.len()]
+    }
+}
+
 pub fn board(board: &mut Board, cell: &Cell) {
     let (choice, wide) = (cell.at(3), wide(cell));
     let at = point(board, cell.at(0), cell.at(1));
@@ -56,13 +67,17 @@ pub fn board(board: &mut Board, cell: &Cell) {
             }
         }
         5 => {
-            board.next[at] = match choice % 3 {
+            // the link of a stone that the slot's ring passes
+            let from = if choice & 1 == 0 { at } else { (board.chains[slot].last as usize).min(raw::MAX_AREA - 1) };
+            board.next[from] = match choice / 2 % 4 {
                 0 => at as u16,
                 1 => point(board, cell.at(2), cell.at(4)) as u16,
-                _ => number(board.next[at] as u64, choice / 4, wide) as u16,
+                2 => raw::MAX_AREA as u16 + (wide & 1) as u16,
+                _ => number(board.next[from] as u64, choice / 8, wide) as u16,
             }
         }
-        6 => board.chains[slot].colour = number(board.chains[slot].colour as u64, choice, wide) as u8,
+        6 if choice & 1 == 0 => board.chains[slot].colour ^= BLACK ^ WHITE,
+        6 => board.chains[slot].colour = number(board.chains[slot].colour as u64, choice / 2, wide) as u8,
         7 => board.chains[slot].origin = number(board.chains[slot].origin as u64, choice, wide) as u16,
         8 => board.chains[slot].last = number(board.chains[slot].last as u64, choice, wide) as u16,
         9 => board.chains[slot].count = number(board.chains[slot].count as u64, choice, wide) as u16,
@@ -92,7 +107,7 @@ fn edit_byte<T: Copy>(state: &mut T, cell: &Cell) {
 
 pub fn game(game: &mut Game, length: usize, cell: &Cell) {
     let (choice, wide) = (cell.at(3), wide(cell));
-    match cell.extra % 20 {
+    match cell.extra % 24 {
         0 => edit_byte(game, cell),
         1 => game.flags = number(game.flags as u64, choice, wide) as u8,
         2 => game.flags = (wide & 15) as u8,
@@ -101,7 +116,7 @@ pub fn game(game: &mut Game, length: usize, cell: &Cell) {
         5 => game.outcome = number(game.outcome as u64, choice, wide) as u8,
         6 => game.begun = number(game.begun as u64, choice, wide) as u8,
         7 => game.ko = number(game.ko as u64, choice, wide) as u16,
-        8 => game.ko = point(&game.board, cell.at(0), cell.at(1)) as u16,
+        8 => game.ko = ko(&game.board, cell.at(0), cell.at(1)),
         9 => game.handicap = number(game.handicap as u64, choice, wide) as u16,
         10 => game.accepted = number(game.accepted as u64, choice, wide) as u16,
         11 => game.held.black = number(game.held.black as u64, choice, wide) as u32,
@@ -142,7 +157,7 @@ pub fn found(fresh: &Game, board: &Board, cell: &Cell) -> Box<Game> {
     game.accepted = (game.put.black + game.put.white) as u16;
     game.flags = cell.value % 16;
     game.turn = 1 + cell.extra % 2;
-    game.ko = if cell.extra & 2 == 0 { raw::NO_POINT } else { point(board, cell.row, 0) as u16 };
+    game.ko = if cell.extra & 2 == 0 { raw::NO_POINT } else { ko(board, cell.row, cell.column) };
     game.begun = 1;
     game
 }

@@ -6,6 +6,7 @@ mod desk;
 mod doctor;
 mod input;
 mod kinds;
+mod meaning;
 mod memory;
 mod model;
 mod mutate;

@@ -53,10 +53,11 @@ impl Lent {
         self.bytes.len() - 64
     }
 
-    /// Guard bytes everywhere, also where the lent bytes will be written.
+    /// Guard bytes everywhere, also where the lent bytes will be written. Those of the last time still stand, or the check has complained.
     pub fn clear(&mut self, length: usize, side: Side) -> *mut u8 {
         assert!(length <= self.bytes.len());
-        self.bytes.copy_from_slice(&self.guard);
+        let last = self.from..self.from + self.length;
+        self.bytes[last.clone()].copy_from_slice(&self.guard[last]);
         self.length = length;
         self.from = match side {
             Side::End => self.bytes.len() - length,
