@@ -67,13 +67,17 @@ pub fn board(board: &mut Board, cell: &Cell) {
             }
         }
         5 => {
-            // the link of a stone that the slot's ring passes
-            let from = if choice & 1 == 0 { at } else { (board.chains[slot].last as usize).min(raw::MAX_AREA - 1) };
-            board.next[from] = match choice / 2 % 4 {
+            let from = match choice % 3 {
+                0 => at,
+                1 => board.chains[slot].origin as usize,
+                _ => board.chains[slot].last as usize,
+            };
+            let from = from.min(raw::MAX_AREA - 1);
+            board.next[from] = match choice / 3 % 4 {
                 0 => at as u16,
                 1 => point(board, cell.at(2), cell.at(4)) as u16,
                 2 => raw::MAX_AREA as u16 + (wide & 1) as u16,
-                _ => number(board.next[from] as u64, choice / 8, wide) as u16,
+                _ => number(board.next[from] as u64, choice / 12, wide) as u16,
             }
         }
         6 if choice & 1 == 0 => board.chains[slot].colour ^= BLACK ^ WHITE,

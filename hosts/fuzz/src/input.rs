@@ -129,7 +129,12 @@ impl Cell {
             rest: Vec::new(),
         };
         if cell.takes_rest() {
-            let length = if random.below(4) == 0 { random.below(MOST_REST + 1) } else { random.below(24) };
+            let length = match cell.step() {
+                Step::Call(_) if random.below(4) == 0 => random.below(MOST_REST + 1),
+                Step::Call(_) => random.below(24),
+                // a place, a choice and a number
+                _ => 12,
+            };
             cell.rest = (0..length).map(|_| random.byte()).collect();
         }
         cell

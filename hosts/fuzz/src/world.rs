@@ -27,6 +27,23 @@ struct Seat {
     pure: bool,
     /// The plain referee beside a game that was played by calls alone from its beginning.
     referee: Option<Box<Referee>>,
+    /// What was here before it was changed by hand.
+    before: Option<Box<Seat>>,
+}
+
+impl Seat {
+    fn new(game: Box<Game>, pure: bool, referee: Option<Box<Referee>>) -> Seat {
+        Seat { game, pure, referee, before: None }
+    }
+
+    /// The game to be changed by hand.
+    fn doctored(&mut self) -> &mut Game {
+        if self.before.is_none() {
+            self.before = Some(Box::new(Seat::new(boxed(&*self.game), self.pure, self.referee.take())));
+        }
+        (self.pure, self.referee) = (false, None);
+        &mut self.game
+    }
 }
 
 struct Shelf {
@@ -68,7 +85,7 @@ impl World {
     /// Every input begins with the same games and boards.
     pub fn reset(&mut self) {
         let (game, board) = (&self.fresh_game, &self.fresh_board);
-        let seat = |_| Seat { game: boxed(&**game), pure: true, referee: Some(model::referee_alone(game)) };
+        let seat = |_| Seat::new(boxed(&**game), true, Some(model::referee_alone(game)));
         self.seats = (0..SEATS).map(seat).collect();
         self.shelves = (0..SEATS).map(|_| Shelf { board: boxed(&**board), pure: true }).collect();
         self.histories = vec![vec![0; HISTORY]; SEATS];
@@ -88,13 +105,15 @@ impl World {
         self.desk.null = cell.side & 4 != 0;
         let at = cell.seat as usize % SEATS;
         match cell.step() {
-            Step::Call(kind) => return self.call(kind, cell),
+            Step::Call(kind) => {
+                self.call(kind, cell)?;
+                self.heal(at, cell)?;
+            }
             Step::DoctorGame => {
                 let length = self.histories[history_of(cell)].len();
-                let seat = &mut self.seats[at];
-                doctor::game(&mut seat.game, length, cell);
-                (seat.pure, seat.referee) = (false, None);
+                doctor::game(self.seats[at].doctored(), length, cell);
             }
+            Step::DoctorBoard if cell.seat & 0x80 == 0 => doctor::board(&mut self.seats[at].doctored().board, cell),
             Step::DoctorBoard => {
                 doctor::board(&mut self.shelves[at].board, cell);
                 self.shelves[at].pure = false;
@@ -115,7 +134,7 @@ impl World {
                 let to = cell.extra as usize % SEATS;
                 if cell.extra & 4 == 0 {
                     let seat = &self.seats[at];
-                    self.seats[to] = Seat { game: boxed(&*seat.game), pure: seat.pure, referee: seat.referee.clone() };
+                    self.seats[to] = Seat::new(boxed(&*seat.game), seat.pure, seat.referee.clone());
                 } else {
                     let seat = &self.seats[at];
                     self.shelves[to] = Shelf { board: boxed(&seat.game.board), pure: seat.pure };
@@ -123,7 +142,20 @@ impl World {
             }
             Step::Found => {
                 let game = doctor::found(&self.fresh_game, &self.shelves[at].board, cell);
-                self.seats[at] = Seat { game, pure: false, referee: None };
+                self.seats[at] = Seat::new(game, false, None);
+            }
+        }
+        Ok(())
+    }
+
+    /// A damaged game goes back to what it was, so that one edit does not spoil all calls that follow.
+    fn heal(&mut self, at: usize, cell: &Cell) -> Checked {
+        let seat = &mut self.seats[at];
+        if cell.side & 0x20 == 0 {
+            if let Some(before) = seat.before.take() {
+                if !self.desk.is_true_game(&seat.game)? {
+                    *seat = *before;
+                }
             }
         }
         Ok(())
@@ -293,7 +325,7 @@ impl World {
         let none = Tally { black: 0, white: 0 };
         ensure!((game.put, game.held, game.handicap, game.records) == (none, none, 0, 0), "state", "new_game: something is counted");
         // an empty history is as good as any for a game without records
-        self.seats[cell.seat as usize % SEATS] = Seat { game, pure: true, referee: Some(Box::new(referee)) };
+        self.seats[cell.seat as usize % SEATS] = Seat::new(game, true, Some(Box::new(referee)));
         Ok(())
     }
 
@@ -399,7 +431,8 @@ impl World {
         // a referee made from the state stands beside no game
         let beside = if is_true { referee.filter(|_| seat.referee.is_some()) } else { seat.referee.clone() };
         let to = if cell.seat & 0x60 == 0x60 { (at + 1) % SEATS } else { at };
-        self.seats[to] = Seat { game: done.game, pure: seat.pure, referee: beside };
+        let before = if to == at { self.seats[at].before.take() } else { None };
+        self.seats[to] = Seat { game: done.game, pure: self.seats[at].pure, referee: beside, before };
         Ok(())
     }
 
