@@ -5,15 +5,21 @@ use crate::random::Random;
 
 const LIKELY: [u8; 12] = [0, 1, 2, 3, 15, 16, 99, 100, 127, 128, 254, 255];
 
-/// A first input: a game of its own and stones.
+/// An input from nothing.
 pub fn first(random: &mut Random) -> Vec<u8> {
-    let cells: Vec<Cell> = (0..1 + random.below(24)).map(|_| Cell::random(random)).collect();
-    input::bytes(&cells)
+    longer(&[], random)
+}
+
+/// An input with more cells at its end. Where there is no room its front is left out.
+pub fn longer(input: &[u8], random: &mut Random) -> Vec<u8> {
+    let mut cells = input::cells(input);
+    cells.extend((0..1 + random.below(24)).map(|_| Cell::random(random)));
+    input::bytes(&cells[cells.len().saturating_sub(MOST_CELLS)..])
 }
 
 pub fn mutate(input: &[u8], other: &[u8], random: &mut Random) -> Vec<u8> {
     let mut cells = input::cells(input);
-    for _ in 0..1 + random.below(4) {
+    for _ in 0..1 << random.below(4) {
         if random.below(4) == 0 {
             let mut bytes = input::bytes(&cells);
             change_bytes(&mut bytes, other, random);

@@ -25,7 +25,8 @@ pub struct Plan {
     pub current: PathBuf,
 }
 
-const FIRST: usize = 64;
+/// How many inputs are made from nothing before one is changed.
+const FIRST: u64 = 64;
 
 /// Gives the complaint that ended it, if there was one. The input then stands in the plan's file.
 pub fn run(plan: &Plan) -> Option<Complaint> {
@@ -61,11 +62,15 @@ fn fuzz(plan: &Plan) -> Result<(), Complaint> {
         if over {
             break;
         }
-        let bytes = if corpus.len() < FIRST && inputs < 2 * FIRST as u64 {
-            mutate::first(&mut random)
-        } else {
-            let input = pick(&corpus, &mut random);
-            mutate::mutate(&corpus[input], &corpus[random.below(corpus.len())], &mut random)
+        // now and then a new one, or one that goes on where a kept one ends
+        let bytes = match random.below(8) {
+            _ if inputs < FIRST => mutate::first(&mut random),
+            0 => mutate::first(&mut random),
+            1 | 2 => mutate::longer(&corpus[pick(&corpus, &mut random)], &mut random),
+            _ => {
+                let input = pick(&corpus, &mut random);
+                mutate::mutate(&corpus[input], &corpus[random.below(corpus.len())], &mut random)
+            }
         };
         file.set_len(bytes.len() as u64).and_then(|()| file.write_all_at(&bytes, 0)).expect("the file of the current input");
         world.desk.fresh = false;
