@@ -94,17 +94,14 @@ pub record Flooded (h w s c o : ℕ) (notes notes′ queue′ seen′ : List ℕ
 
 -- ---- One slot after another
 
--- what is lent to judge a slot: of the slot's points and of the empty ones the notes say what the owners say
-pub record Lent (h w s : ℕ) (owners next table : List ℕ) (starts : List Bool) (notes queue : List ℕ) (sum : ℕ) : Type 0 where
+-- what is lent to judge a slot
+pub record Lent (h w s : ℕ) (next table : List ℕ) (starts : List Bool) (notes queue : List ℕ) (sum : ℕ) : Type 0 where
   pub low : s < slots
   pub fits : area h w ≤ maxArea
-  pub ownersLong : length owners ≡ maxArea
   pub linksLong : length next ≡ maxArea
   pub notesLong : length notes ≡ maxArea
   pub queueLong : length queue ≡ maxArea
   pub numbers : table ≡ tabulate entry 0 hashEntries
   pub starting : RowStarts h w starts
   pub hashed : sum ≡ hashOf h w (ownerIn notes)
-  pub standing : (p : ℕ) → ownerIn owners p < slots → p < area h w
-  pub ours : (p : ℕ) → eqb (ownerIn notes p) s ≡ eqb (ownerIn owners p) s
-  pub vacant : (p : ℕ) → eqb (ownerIn notes p) slots ≡ eqb (ownerIn owners p) slots
+  pub standing : (p : ℕ) → ownerIn notes p < slots → p < area h w

@@ -33,22 +33,19 @@ pub fn judge(board: Board) -> bool
     if !side_good(width) {
         return false;
     }
-    let owners = board.owners;
-    if !all_placed(&owners, height, width) {
+    if !all_placed(&board.owners, height, width) {
         return false;
     }
-    let next = board.next;
     let starts = row_starts(height, width);
     let numbers = table();
-    let mut notes = owners;
+    let mut notes = board.owners;
     let mut queue = [0u16; MAX_AREA];
     let mut hash = 0u64;
     let mut slot = 0;
     while slot < SLOTS {
         let chain = board.chains[slot];
         if !slot_good(
-            &owners,
-            &next,
+            &board.next,
             &numbers,
             &starts,
             &mut notes,
@@ -66,10 +63,10 @@ pub fn judge(board: Board) -> bool
     if !all_found(&notes, height, width) {
         return false;
     }
-    if !rows_apart(&owners, &starts, &notes, height, width) {
+    if !rows_apart(&board.owners, &starts, &notes, height, width) {
         return false;
     }
-    if !columns_apart(&owners, &notes, height, width) {
+    if !columns_apart(&board.owners, &notes, height, width) {
         return false;
     }
     board.hash == hash

@@ -23,7 +23,6 @@ fn is_player(colour: u8) -> bool
 }
 
 fn chain_good(
-    owners: &[u16; MAX_AREA],
     next: &[u16; MAX_AREA],
     table: &[u64; HASH_ENTRIES],
     starts: &[bool; MAX_AREA + 1],
@@ -35,16 +34,19 @@ fn chain_good(
     slot: usize,
     chain: Chain,
 ) -> bool
-    requires { ⌜ Lent height width slot (now owners) (now next) (now table) (now starts) (now notes) (now queue) (now hash) ⌝ }
-    ensures judged { λ r. ⌜ r ≡ chainGood height width (ownerIn (now (owners .entry))) (now (next .entry)) slot chain ⌝ }
-    ensures passed { λ r. ⌜ (r ≡ true → Passed height width (found height width (ownerIn (now (owners .entry))) slot (chain .origin)) (chain .colour) (now (notes .entry)) (now (notes .exit)) (now (queue .exit)) (now (hash .exit))) ⌝ }
+    requires { ⌜ Lent height width slot (now next) (now table) (now starts) (now notes) (now queue) (now hash) ⌝ }
+    ensures judged { λ r. ⌜ r ≡ chainGood height width (ownerIn (now (notes .entry))) (now (next .entry)) slot chain ⌝ }
+    ensures passed { λ r. ⌜ (r ≡ true → Passed height width (found height width (ownerIn (now (notes .entry))) slot (chain .origin)) (chain .colour) (now (notes .entry)) (now (notes .exit)) (now (queue .exit)) (now (hash .exit))) ⌝ }
 {
     let colour = chain.colour;
     if !is_player(colour) {
         return false;
     }
     let origin = index(chain.origin);
-    if owner_at(owners, origin) != slot {
+    if owner_at(notes, origin) != slot {
+        return false;
+    }
+    if !ring_good(notes, next, slot, chain) {
         return false;
     }
     let mut seen = [0u64; SEEN_WORDS];
@@ -64,16 +66,12 @@ fn chain_good(
     if stones != index(chain.count) {
         return false;
     }
-    if !ring_good(owners, next, slot, chain) {
-        return false;
-    }
     let kept = chain.liberties;
     liberties_good(kept, seen)
 }
 
 // A slot whose count is 0 holds no chain, and nothing else is asked.
 pub fn slot_good(
-    owners: &[u16; MAX_AREA],
     next: &[u16; MAX_AREA],
     table: &[u64; HASH_ENTRIES],
     starts: &[bool; MAX_AREA + 1],
@@ -85,15 +83,14 @@ pub fn slot_good(
     slot: usize,
     chain: Chain,
 ) -> bool
-    requires { ⌜ Lent height width slot (now owners) (now next) (now table) (now starts) (now notes) (now queue) (now hash) ⌝ }
-    ensures judged { λ r. ⌜ r ≡ slotGood height width (ownerIn (now (owners .entry))) (now (next .entry)) slot chain ⌝ }
-    ensures passed { λ r. ⌜ (r ≡ true → Passed height width (λ p. used chain && found height width (ownerIn (now (owners .entry))) slot (chain .origin) p) (chain .colour) (now (notes .entry)) (now (notes .exit)) (now (queue .exit)) (now (hash .exit))) ⌝ }
+    requires { ⌜ Lent height width slot (now next) (now table) (now starts) (now notes) (now queue) (now hash) ⌝ }
+    ensures judged { λ r. ⌜ r ≡ slotGood height width (ownerIn (now (notes .entry))) (now (next .entry)) slot chain ⌝ }
+    ensures passed { λ r. ⌜ (r ≡ true → Passed height width (λ p. used chain && found height width (ownerIn (now (notes .entry))) slot (chain .origin) p) (chain .colour) (now (notes .entry)) (now (notes .exit)) (now (queue .exit)) (now (hash .exit))) ⌝ }
 {
     if chain.count == 0 {
         return true;
     }
     chain_good(
-        owners,
         next,
         table,
         starts,

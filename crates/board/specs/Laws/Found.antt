@@ -1,13 +1,13 @@
 -- Laws of what is found from a point: it says that a walk by the slot's points leads there.
-use mathlib.Core.Path.{_≡_, refl, ap, subst, fun-ext}
-use mathlib.Core.Bool.{Bool, true, false, _&&_}
-use mathlib.Core.List.{[], _∷_, List·Memᴰ, List·Memᴰ·head as head, List·Memᴰ·eq-of-singleton as eq-of-singleton}
+use mathlib.Core.Path.{_≡_, refl, ap, ap₂, subst, fun-ext}
+use mathlib.Core.Bool.{Bool, true, false, not, _&&_, _||_}
+use mathlib.Core.List.{List, [], _∷_, List·Memᴰ, List·Memᴰ·head as head, List·Memᴰ·eq-of-singleton as eq-of-singleton}
 use mathlib.Core.Logic.{_↔_, _≢_}
-use Prim.Native.Nat.{ℕ, _≤_, _<_}
+use Prim.Native.Nat.{ℕ, _-_, _≤_, _<_}
 use native.Mathlib.Omega.{arith}
-use lib.Dec.{eqb}
+use lib.Dec.{eqb, ltb}
 use Rattle.rules.specs.Sizes.{slots}
-use Rattle.rules.specs.Lists.{any}
+use Rattle.rules.specs.Lists.{any, all, count, below, same}
 use Rattle.rules.specs.Points.{area, neighbours}
 use Rattle.rules.specs.Reach.{Walk, here, step}
 use Rattle.rules.specs.Flood.{flooded, marked}
@@ -16,7 +16,11 @@ use Rattle.rules.specs.Laws.Points.{neighbours-on, neighbours-from, neighbours-
 use Rattle.rules.specs.Laws.Reach.{walk-last}
 use Rattle.rules.specs.Laws.Run.{flooded-marks}
 use Rattle.rules.specs.Laws.Flood.{eqb-means}
-use Rattle.board.specs.Judge.{found, shore}
+use Rattle.chains.specs.declared.group.Chain.{Chain}
+use Rattle.chains.specs.Group.{used}
+use Rattle.chains.specs.Walk.{stepped}
+use Rattle.sets.specs.Liberties.{setOf, number}
+use Rattle.board.specs.Judge.{player, onRing, ring, found, shore, counted, libertiesGood, chainGood, slotGood}
 
 module _ (h w : ℕ) where
   -- a walk that began on the board ends on it
@@ -48,14 +52,28 @@ module _ (h w : ℕ) where
     pub found-not : own p ≢ s → found h w own s o p ≡ false
     found-not n = not-yes (λ t. n (found-owner t))
 
-  -- owners that agree on the slot find the same, and owners that agree on the empty points have the same shore
+  -- owners that agree on the slot find the same
   pub found-same : (own own′ : ℕ → ℕ) (s o : ℕ) → ((p : ℕ) → eqb (own p) s ≡ eqb (own′ p) s) → found h w own s o ≡ found h w own′ s o
   unfolding found
   found-same own own′ s o same = ap {B = ℕ → Bool} (λ (pass : ℕ → Bool) (p : ℕ). marked (flooded (neighbours h w) pass (area h w) (o ∷ [])) p) (fun-ext same)
 
-  pub shore-same : (own own′ : ℕ → ℕ) (f : ℕ → Bool) → ((q : ℕ) → eqb (own q) slots ≡ eqb (own′ q) slots) → shore h w own f ≡ shore h w own′ f
-  unfolding shore
-  shore-same own own′ f same = fun-ext (λ q. ap (λ (t : Bool). t && any f (neighbours h w q)) (same q))
+  -- and where they agree on the empty points too they judge the slot alike
+  pub slot-same :
+      (own own′ : ℕ → ℕ) (next : List ℕ) (s : ℕ) (c : Chain) → ((p : ℕ) → eqb (own p) s ≡ eqb (own′ p) s)
+      → ((q : ℕ) → eqb (own q) slots ≡ eqb (own′ q) slots) → slotGood h w own next s c ≡ slotGood h w own′ next s c
+  unfolding slotGood chainGood counted libertiesGood shore found ring onRing
+  slot-same own own′ next s c ours vacant = ap₂ judge (fun-ext ours) (fun-ext vacant)
+    where
+      judge : (ℕ → Bool) → (ℕ → Bool) → Bool
+      judge mine none =
+          let f : ℕ → Bool = λ p. marked (flooded (neighbours h w) mine (area h w) (c .origin ∷ [])) p in
+          not (used c)
+          || (player (c .colour)
+          && (mine (c .origin)
+          && (eqb (count f (below (area h w))) (c .count)
+          && ((all (λ k. mine (stepped next (c .origin) k) && (eqb k 0 || ltb (c .origin) (stepped next (c .origin) k))) (below (c .count))
+          && (eqb (stepped next (c .origin) (c .count - 1)) (c .last) && eqb (stepped next (c .origin) (c .count)) (c .origin)))
+          && (same (c .liberties) (setOf (λ q. none q && any f (neighbours h w q))) && ltb 0 (number (c .liberties)))))))
 
   -- a point off the board has nothing beside it
   pub shore-off : (own : ℕ → ℕ) (f : ℕ → Bool) (q : ℕ) → area h w ≤ q → shore h w own f q ≡ false

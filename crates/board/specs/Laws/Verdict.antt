@@ -28,7 +28,7 @@ use Rattle.board.specs.Judge.{ownerIn, sideGood, placed, found, slotGood
 use Rattle.board.specs.Flood.{RowStarts, Lent, Passed}
 use Rattle.board.specs.Laws.Lists.{all-below, all-fails-below, and-fails, then-fails}
 use Rattle.board.specs.Laws.NewBoard.{hash-none}
-use Rattle.board.specs.Laws.Found.{found-not}
+use Rattle.board.specs.Laws.Found.{found-not, found-same, slot-same}
 use Rattle.board.specs.Laws.Tests.{placed-says, slot-says}
 
 -- ---- Sizes
@@ -167,36 +167,48 @@ module _ (b : Board) (shape : Shaped b) (on : all (placed (b .height) (b .width)
     unfolding noted
     noted-owner p f = ap (λ (t : Bool). cond t (slots + colourAt b p) (owner b p)) f
 
+    -- of the slot's points and of the empty ones the notes say what the owners say
+    ours : (p : ℕ) → eqb (ownerIn notes p) slot ≡ eqb (owner b p) slot
+    ours p =
+        ap (λ (x : ℕ). eqb x slot) (is .notes-are p)
+        ∙ ⊎-elim
+        (λ t. let (under, _, above) = noted-other p t in ne-eqb (noted b slot p) slot (λ z. omega arith) ∙ sym (ne-eqb (owner b p) slot (λ z. omega arith)))
+        (λ f. ap (λ (x : ℕ). eqb x slot) (noted-owner p f)) (decided (foundBelow b slot p))
+
+    vacant : (p : ℕ) → eqb (ownerIn notes p) slots ≡ eqb (owner b p) slots
+    vacant p =
+        ap (λ (x : ℕ). eqb x slots) (is .notes-are p)
+        ∙ ⊎-elim (λ t. let (under, n, _) = noted-other p t in ne-eqb (noted b slot p) slots n ∙ sym (ne-eqb (owner b p) slots (λ z. omega arith)))
+        (λ f. ap (λ (x : ℕ). eqb x slots) (noted-owner p f)) (decided (foundBelow b slot p))
+
+    standing : (p : ℕ) → ownerIn notes p < slots → p < area (b .height) (b .width)
+    standing p l =
+        ⊎-elim (λ t. let (_, _, above) = noted-other p t in let e = is .notes-are p in absurd (omega arith))
+        (λ f. let e = is .notes-are p ∙ noted-owner p f in placed-on p (omega arith)) (decided (foundBelow b slot p))
+
+    -- so the slot is judged by the notes as by the owners
+    pub judging-slot : (c : Chain) → slotGood (b .height) (b .width) (ownerIn notes) (b .next) slot c ≡ slotGood (b .height) (b .width) (owner b) (b .next) slot c
+    judging-slot c = slot-same (b .height) (b .width) (ownerIn notes) (owner b) (b .next) slot c ours vacant
+
     pub judging-lent :
         {table : List ℕ} {starts : List Bool} → table ≡ tabulate entry 0 hashEntries → RowStarts (b .height) (b .width) starts
-        → area (b .height) (b .width) ≤ maxArea → Lent (b .height) (b .width) slot (b .owners) (b .next) table starts notes queue sum
-    unfolding owner ownerIn
+        → area (b .height) (b .width) ≤ maxArea → Lent (b .height) (b .width) slot (b .next) table starts notes queue sum
     judging-lent numbers starting fits = record {
       low = low;
       fits = fits;
-      ownersLong = shape .owners;
       linksLong = shape .links;
       notesLong = is .notesLong;
       queueLong = is .queueLong;
       numbers = numbers;
       starting = starting;
       hashed = is .hashed;
-      standing = placed-on;
-      ours = λ p.
-          ap (λ (x : ℕ). eqb x slot) (is .notes-are p)
-          ∙ ⊎-elim
-          (λ t. let (under, _, above) = noted-other p t in ne-eqb (noted b slot p) slot (λ z. omega arith) ∙ sym (ne-eqb (owner b p) slot (λ z. omega arith)))
-          (λ f. ap (λ (x : ℕ). eqb x slot) (noted-owner p f)) (decided (foundBelow b slot p));
-      vacant = λ p.
-          ap (λ (x : ℕ). eqb x slots) (is .notes-are p)
-          ∙ ⊎-elim (λ t. let (under, n, _) = noted-other p t in ne-eqb (noted b slot p) slots n ∙ sym (ne-eqb (owner b p) slots (λ z. omega arith)))
-          (λ f. ap (λ (x : ℕ). eqb x slots) (noted-owner p f)) (decided (foundBelow b slot p));
+      standing = standing;
     }
 
     pub judging-next :
         {notes′ queue′ : List ℕ} {sum′ : ℕ} {chain : Chain} → chain ≡ chainIn b slot
         → slotGood (b .height) (b .width) (owner b) (b .next) slot (chainIn b slot) ≡ true
-        → Passed (b .height) (b .width) (λ p. used chain && found (b .height) (b .width) (owner b) slot (chain .origin) p) (chain .colour) notes notes′ queue′ sum′
+        → Passed (b .height) (b .width) (λ p. used chain && found (b .height) (b .width) (ownerIn notes) slot (chain .origin) p) (chain .colour) notes notes′ queue′ sum′
         → Judging b notes′ queue′ sum′ (slot + 1)
     judging-next {notes′} {queue′} {sum′} {chain} at good passed = record {
       within = omega arith;
@@ -206,7 +218,9 @@ module _ (b : Board) (shape : Shaped b) (on : all (placed (b .height) (b .width)
       hashed = passed .hashed;
       notes-are = λ p.
           passed .painted p
-          ∙ ap (λ (c : Chain). cond (used c && found (b .height) (b .width) (owner b) slot (c .origin) p) (slots + c .colour) (ownerIn notes p)) at
+          ∙ ap (λ (c : Chain). cond (used c && found (b .height) (b .width) (ownerIn notes) slot (c .origin) p) (slots + c .colour) (ownerIn notes p)) at
+          ∙ ap (λ (f : ℕ → Bool). cond (used (chainIn b slot) && f p) (slots + chainIn b slot .colour) (ownerIn notes p))
+          (found-same (b .height) (b .width) (ownerIn notes) (owner b) slot (chainIn b slot .origin) ours)
           ∙ ap (cond (used (chainIn b slot) && found (b .height) (b .width) (owner b) slot (chainIn b slot .origin) p) (slots + chainIn b slot .colour)) (is .notes-are p)
           ∙ noted-next slot p;
     }

@@ -20,17 +20,17 @@ use Rattle.board.specs.Board.{owner, chainIn}
 use Rattle.board.specs.True.{Shaped, TrueBoard}
 use Rattle.board.specs.Judge.{ownerIn, sideGood, placed, slotGood, noted, hashOf, judged}
 use Rattle.board.specs.Laws.Judge.{judged-true}
-use Rattle.board.specs.Laws.Verdict.{side-some, sides-fit, sides-some, sides-wide, Judging, judging-begin, judging-lent, judging-next, notes-all}
+use Rattle.board.specs.Laws.Verdict.{side-some, sides-fit, sides-some, sides-wide, Judging, judging-begin, judging-slot, judging-lent, judging-next, notes-all}
 use Rattle.board.specs.Laws.Verdict.{seenGood, rowsGood, columnsGood, no-height, no-width, not-placed, bad-slot, not-seen, not-rows, not-columns, hash-decides}
 use borrow.Author.Needs.{needs}
 use Rattle.board.proofs.judge.judge.Statement.{statement}
 use Rattle.board.proofs.judge.judge.Tie as tie
 
 abbrev Inv-loop : tie.InvT-loop
-Inv-loop board height width owners next starts numbers notes₀ queue₀ hash₀ slot₀ notes queue hash slot = Judging board notes queue hash slot
+Inv-loop board height width starts numbers notes₀ queue₀ hash₀ slot₀ notes queue hash slot = Judging board notes queue hash slot
 
 abbrev μ-loop : tie.MeasureT-loop
-μ-loop board height width owners next starts numbers notes₀ queue₀ hash₀ slot₀ notes queue hash slot = slots - slot
+μ-loop board height width starts numbers notes₀ queue₀ hash₀ slot₀ notes queue hash slot = slots - slot
 
 -- ---- Before the loop: the start, where both sides are found good, and where the points are well placed
 
@@ -89,8 +89,11 @@ tested : (c : tie.After-slot-good Inv-loop μ-loop)
 unfolding owner ownerIn
 tested c =
     let loop = looped c .before in
-    let b = board (before loop) in
-    ap (slotGood (b .height) (b .width) (owner b) (b .next) (loop .loop .slot)) (sym (chain-at (looped c))) ∙ sym (c .slot-good .ensures .0)
+    let e = before loop in
+    let b = board e in
+    ap (slotGood (b .height) (b .width) (owner b) (b .next) (loop .loop .slot)) (sym (chain-at (looped c)))
+    ∙ sym (judging-slot b (shape (begin e)) (on e) (loop .loop .inv) (looped c .loop-test .taken) _)
+    ∙ sym (c .slot-good .ensures .0)
 
 -- ---- After all slots
 
@@ -118,7 +121,7 @@ returns-3 c =
     told (c .before .before .before .before .before .before .before .before) false (sym (not-placed _ (sym (c .before .all-placed .ensures) ∙ not-true _ (c .if3 .taken))))
 
 row-starts-requires : tie.Need-row-starts-requires Inv-loop μ-loop
-row-starts-requires c κs = let e = sized (c .before) in (side-some _ (wide e), fits e)
+row-starts-requires c κs = let e = sized c in (side-some _ (wide e), fits e)
 
 table-requires : tie.Need-table-requires Inv-loop μ-loop
 table-requires c κs = search needs
@@ -137,7 +140,7 @@ slot-good-requires c κs =
     let inside = c .before .before .before .before .before .before .before .before in
     let loop = inside .before in
     let e = before loop in
-    judging-lent (board e) (shape (begin e)) (on e) (loop .loop .inv) (inside .loop-test .taken) (loop .before .table .ensures) (loop .before .before .row-starts .ensures) (fits (sized e))
+    judging-lent (board e) (shape (begin e)) (on e) (loop .loop .inv) (inside .loop-test .taken) (loop .before .before .table .ensures) (loop .before .before .before .row-starts .ensures) (fits (sized e))
 
 returns-4 : tie.Need-returns-4 Inv-loop μ-loop
 returns-4 c =
@@ -172,21 +175,21 @@ returns-5 c =
 
 rows-apart-requires : tie.Need-rows-apart-requires Inv-loop μ-loop
 rows-apart-requires c κs =
-    let loop = c .before .before .before .before .before .before .before in
+    let loop = c .before .before .before .before .before .before .before .before in
     let e = before loop in
     let s = sized e in
-    (shape (begin e) .owners, loop .loop .inv .notesLong, loop .before .before .row-starts .ensures, fits s, sides-some _ _ (side-some _ (tall s)) (side-some _ (wide s)))
+    (shape (begin e) .owners, loop .loop .inv .notesLong, loop .before .before .before .row-starts .ensures, fits s, sides-some _ _ (side-some _ (tall s)) (side-some _ (wide s)))
 
 returns-6 : tie.Need-returns-6 Inv-loop μ-loop
 unfolding owner ownerIn
 returns-6 c =
-    let after = c .before .before .before .before .before .before .before .before in
+    let after = c .before .before .before .before .before .before .before .before .before in
     let e = before (after .before) in
     told (begin e) false (sym (not-rows (board e) (ap (rowsGood (board e)) (sym (all-noted after)) ∙ sym (c .before .rows-apart .ensures) ∙ not-true _ (c .if6 .taken))))
 
 columns-apart-requires : tie.Need-columns-apart-requires Inv-loop μ-loop
 columns-apart-requires c κs =
-    let loop = c .before .before .before .before .before .before .before .before .before .before .before in
+    let loop = c .before .before .before .before .before .before .before .before .before .before .before .before .before in
     let e = before loop in
     let s = sized e in
     (shape (begin e) .owners, loop .loop .inv .notesLong, fits s, sides-wide _ _ (side-some _ (tall s)))
@@ -194,15 +197,15 @@ columns-apart-requires c κs =
 returns-7 : tie.Need-returns-7 Inv-loop μ-loop
 unfolding owner ownerIn
 returns-7 c =
-    let after = c .before .before .before .before .before .before .before .before .before .before .before .before in
+    let after = c .before .before .before .before .before .before .before .before .before .before .before .before .before .before in
     let e = before (after .before) in
     told (begin e) false (sym (not-columns (board e) (ap (columnsGood (board e)) (sym (all-noted after)) ∙ sym (c .before .columns-apart .ensures) ∙ not-true _ (c .if7 .taken))))
 
 returns-8 : tie.Need-returns-8 Inv-loop μ-loop
 unfolding owner ownerIn
 returns-8 c =
-    let near = c .before .before .before .before in
-    let found = near .before .before .before .before .before in
+    let near = c .before .before .before .before .before in
+    let found = near .before .before .before .before .before .before in
     let after = found .before .before .before in
     let loop = after .before in
     let e = before loop in
