@@ -1,7 +1,7 @@
 //! An input is a byte string. It is read as cells, each a call or an edit of what lies between the calls; any bytes are some cells.
 
 use crate::kinds::Kind;
-use crate::random::Random;
+use random::Random;
 
 /// What a cell does.
 #[derive(Clone, Copy, PartialEq, Eq, Debug)]

@@ -11,7 +11,6 @@ mod memory;
 mod model;
 mod mutate;
 mod parent;
-mod random;
 mod report;
 mod run;
 mod slips;

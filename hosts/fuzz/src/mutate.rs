@@ -1,7 +1,7 @@
 //! New inputs from old ones: bytes changed anywhere, and whole cells.
 
 use crate::input::{self, Cell, MOST_CELLS, MOST_REST};
-use crate::random::Random;
+use random::Random;
 
 const LIKELY: [u8; 12] = [0, 1, 2, 3, 15, 16, 99, 100, 127, 128, 254, 255];
 

@@ -5,7 +5,7 @@ use crate::cover;
 use crate::input;
 use crate::kinds::KINDS;
 use crate::mutate;
-use crate::random::Random;
+use random::Random;
 use crate::report;
 use crate::slips::Slip;
 use crate::world::World;
@@ -38,7 +38,7 @@ pub fn run(plan: &Plan) -> Option<Complaint> {
 
 fn fuzz(plan: &Plan) -> Result<(), Complaint> {
     let file = File::create(&plan.current).expect("the file of the current input");
-    let mut random = Random::new(plan.seed);
+    let mut random = Random::new(plan.seed, 0);
     let mut world = World::new(plan.slip)?;
     let mut corpus: Vec<Vec<u8>> = Vec::new();
     let (mut inputs, start) = (0u64, Instant::now());
