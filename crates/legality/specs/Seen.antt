@@ -26,7 +26,7 @@ seenOf h w cols =
 -- what a chain shows at p: where p is not its first point, its liberties stand at the first
 pub record Counted (c : Chain) (liberties : List ℕ) (p : ℕ) : Type 0 where
   pub long : length liberties ≡ maxArea
-  pub within : p ≤ maxArea
+  pub within : p < maxArea
   pub first : c .origin < p → getD liberties (c .origin) 0 ≡ number (c .liberties)
 
 -- there is a place for each point of the board

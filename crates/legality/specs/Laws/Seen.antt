@@ -60,7 +60,7 @@ module _ (b : Board) (is : TrueBoard b) (p : ℕ) (n : owner b p ≢ slots) wher
   chain : ExactChain b (owner b p)
   chain = let (on, below, is-used) = is .table .owned p n in is .table .exact (owner b p) below is-used
 
-  pub first-counted : (ls : List ℕ) → length ls ≡ maxArea → p ≤ maxArea → ((k : ℕ) → k < p → getD ls k 0 ≡ libertiesAt b k)
+  pub first-counted : (ls : List ℕ) → length ls ≡ maxArea → p < maxArea → ((k : ℕ) → k < p → getD ls k 0 ≡ libertiesAt b k)
       → Counted (chainIn b (owner b p)) ls p
   unfolding chainSeen
   first-counted ls long within read =

@@ -116,7 +116,7 @@ stone-seen-requires c κs =
     let below : read .index .result < slots = test .if1 .taken in
     let done = loop .loop .inv .liberties in
     subst (λ (x : Chain). Counted x (loop .loop .liberties) p) (sym (chain-read b is p low _ its below _))
-    (first-counted b is p (λ z. let e = owner-read b is p low _ its ∙ z in omega arith) _ (done .long) (omega arith) (done .read))
+    (first-counted b is p (λ z. let e = owner-read b is p low _ its ∙ z in omega arith) _ (done .long) low (done .read))
 
 array-write-colours : tie.Need-array-write-colours Inv-loop μ-loop
 array-write-colours c = omega (arith, c .before .before .before .before .loop-test .taken)

@@ -1,5 +1,5 @@
 -- `legality::look::stone_seen`: at the first point or later, what is seen is the same.
-use mathlib.Core.Path.{ap, _∙_, subst}
+use mathlib.Core.Path.{ap, _∙_}
 use Prim.Native.Nat.{ℕ, _<_}
 use native.Mathlib.Omega.{arith}
 use lib.ListN.{getD}
@@ -26,7 +26,7 @@ returns c =
     let start = read .before in
     let own = start .args .chain in
     let its = read .index .ensures in
-    let before : own .origin < start .args .point = subst (λ (o : ℕ). o < start .args .point) its (c .before .if1 .taken) in
+    let before : own .origin < start .args .point = omega (arith, c .before .if1 .taken, its) in
     let there = ap (λ (o : ℕ). getD (start .args .liberties .now) o 0) its ∙ start .pre .first before in
     λ i. record { colour = own .colour; liberties = there i; stones = own .count }
 
