@@ -128,7 +128,11 @@ pub fn game(game: &mut Game, length: usize, cell: &Cell) {
         13 => game.put.black = number(game.put.black as u64, choice, wide) as u32,
         14 => game.put.white = number(game.put.white as u64, choice, wide) as u32,
         15 => game.records = number(game.records as u64, choice, wide) as usize,
-        16 => game.records = (length / RECORD_BYTES + 1).saturating_sub(cell.at(0) as usize % 4),
+        16 => {
+            // as many records as there is room for, or one more; only a begun game may have some
+            game.records = (length / RECORD_BYTES + 1).saturating_sub(cell.at(0) as usize % 4);
+            game.begun = 1;
+        }
         17 | 18 => age(game, cell),
         _ => board(&mut game.board, cell),
     }
