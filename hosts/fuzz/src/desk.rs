@@ -13,7 +13,7 @@ use std::ptr;
 
 /// Every call but a replay runs on the stack of the thread that plays the inputs.
 pub const STACK: usize = 256 << 10;
-/// A replay by value stands too near the bound to have the harness's frames on the same stack, so that it has a stack of its own.
+/// A replay takes more than that, so that it has a stack of its own.
 const REPLAY_STACK: usize = 512 << 10;
 
 // Each in a function of its own, so that the states by value of one call do not lie on the stack of another.

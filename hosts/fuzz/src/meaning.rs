@@ -24,11 +24,12 @@ fn side(byte: u8) -> u8 {
     }
 }
 
-/// Each side by itself, or the square boards up to the largest.
+/// Each side by itself, or the square boards up to the largest, or the very small ones, where boards come back.
 pub fn sizes(cell: &Cell) -> (u8, u8) {
     match cell.extra {
         0..8 => (MAX_SIDE, MAX_SIDE),
         8..28 => (cell.extra - 8 + cell.length % 2, cell.extra - 8),
+        28..52 => (1 + cell.length % 2, 1 + cell.extra % 3),
         _ => (side(cell.row), side(cell.column)),
     }
 }
