@@ -37,6 +37,7 @@ macro_rules! placed {
 macro_rules! in_registers {
     ($($name:ident: $raw:ident($state:ty; $($arg:ident: $kind:ty),*) -> $result:ty as $seen:ty;)*) => { $(
         #[inline(never)]
+        #[allow(clippy::useless_transmute)] // where what is seen is the result itself
         unsafe fn $name(state: &$state, $($arg: $kind),*) -> $seen {
             let known: unsafe extern "C" fn($state, $($kind),*) -> $result = raw::$raw;
             unsafe {

@@ -30,10 +30,7 @@ const FIRST: u64 = 64;
 
 /// Gives the complaint that ended it, if there was one. The input then stands in the plan's file.
 pub fn run(plan: &Plan) -> Option<Complaint> {
-    match fuzz(plan) {
-        Ok(()) => None,
-        Err(complaint) => Some(complaint),
-    }
+    fuzz(plan).err()
 }
 
 fn fuzz(plan: &Plan) -> Result<(), Complaint> {
