@@ -30,13 +30,13 @@ slips! {
     /// A stone touches the byte behind the last whole record.
     BeyondTheCapacity ["history"];
     /// A refused stone changes the turn.
-    RefusedChanges ["refused", "replay"];
+    RefusedChanges ["refused"];
     /// A refused list writes its first place.
     RefusedWrites ["buffer"];
     /// `resume` answers 4.
-    WrongNumber ["order", "replay"];
+    WrongNumber ["order"];
     /// A stone on a taken point is off the board.
-    WrongRefusal ["answer", "replay"];
+    WrongRefusal ["answer"];
     /// A replay leaves the history as it was.
     ReplayDropsHistory ["replay"];
     /// A replay does not count its last entry.
@@ -46,7 +46,7 @@ slips! {
     /// A pass keeps the ko point.
     KoStays ["referee"];
     /// A stone that captures forgets one prisoner.
-    PrisonerIsLost ["true", "replay"];
+    PrisonerIsLost ["true"];
     /// `resign_in_place` leaves the mark of a begun game out.
     FormsDiffer ["forms"];
     /// `is_true_game` says yes to all.

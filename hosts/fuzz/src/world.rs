@@ -469,6 +469,8 @@ impl World {
     /// A replay does what its entries do one by one. Gives the number that is due.
     fn entry_by_entry(&mut self, game: &Game, history: &[u8], moves: &[Move], done: &Done) -> Checked<Option<u8>> {
         let mut now = Done { entries: 0, answer: 0, game: boxed(game), history: history.to_vec() };
+        // a fault planted in a single call is for that call's own checks to notice
+        let slip = std::mem::replace(&mut self.desk.slip, Slip::None);
         for entry in moves {
             let change = match entry.kind {
                 kinds::STONE => Change::Stone(entry.row, entry.column),
@@ -488,6 +490,7 @@ impl World {
             }
             now.entries += 1;
         }
+        self.desk.slip = slip;
         ensure!(done.entries == now.entries, "replay", "{} entries accepted, one by one {}", done.entries, now.entries);
         ensure!(done.answer == now.answer, "replay", "answer {}, one by one {}", done.answer, now.answer);
         ensure!(done.game == now.game, "replay", "another state than one by one");
