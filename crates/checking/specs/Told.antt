@@ -33,6 +33,11 @@ abbrev pub settled : Told → Bool → ℕ
 settled (Answer n) again = n
 settled IfRecorded again = number (refuse answers.SuperKo again)
 
+-- the number that is known already: 0 where the records decide
+abbrev pub known : Told → ℕ
+known (Answer n) = n
+known IfRecorded = 0
+
 -- the records decide
 abbrev pub undecided : Told → Bool
 undecided (Answer n) = false

@@ -15,16 +15,18 @@ use points::answers::ACCEPTED;
 use points::answers::OFF_BOARD;
 use points::answers::POINT_NOT_EMPTY;
 use points::answers::SUPER_KO;
+use points::coord::two_to_1dim;
 use points::sizes::MAX_AREA;
 use points::stones::EMPTY;
 ghost use mathlib.Core.Path.{_≡_};
 ghost use lib.ListN.{length};
 ghost use Rattle.rules.specs.Records.{recorded};
 ghost use Rattle.rules.specs.Answers.{number, refuse, SuperKo};
-ghost use Rattle.rules.specs.Calls.{resulting, forbiddenAnswer, pointAnswer};
+ghost use Rattle.rules.specs.Calls.{resulting, pointAnswer};
+ghost use Rattle.board.specs.True.{TrueBoard};
 ghost use Rattle.game.specs.View.{viewOf, TrueState, RoomIn};
 ghost use Rattle.checking.specs.Told.{atKo};
-ghost use Rattle.checking.specs.Asking.{Asking, Repeating};
+ghost use Rattle.checking.specs.Asking.{Repeating, Tells, ToldAt};
 
 pub fn is_ko_point(ko: u16, point: usize) -> bool
     ensures { λ r. ⌜ r ≡ atKo ko point ⌝ }
@@ -43,10 +45,10 @@ fn superko_answer(game: Game, history: &[u8], point: usize) -> u8
     ACCEPTED
 }
 
-// The answer at an empty point of the board. Where no eye is asked for, nothing is read but what stands beside the point.
-fn forbidden_answer(game: Game, history: &[u8], flags: u8, point: usize) -> u8
-    requires { ⌜ Asking game (length (now history)) point ⌝ }
-    ensures { λ r. ⌜ r ≡ number (forbiddenAnswer (viewOf game) (now (history .entry)) flags point) ⌝ }
+// What is told of an empty point of the board. Where no eye is asked for, nothing is read but what stands beside the point.
+fn told_there(game: Game, flags: u8, point: usize) -> Told
+    requires { ⌜ TrueBoard (game .board) ⌝ }
+    ensures { λ r. ⌜ Tells game flags point r ⌝ }
 {
     let height = game.board.height;
     let width = game.board.width;
@@ -55,7 +57,7 @@ fn forbidden_answer(game: Game, history: &[u8], flags: u8, point: usize) -> u8
         let shown = colours_of(game.board);
         colours = shown;
     }
-    let answer = told(
+    told(
         near_at(game.board, point),
         &colours,
         height,
@@ -65,11 +67,20 @@ fn forbidden_answer(game: Game, history: &[u8], flags: u8, point: usize) -> u8
         is_ko_point(game.ko, point),
         game.records,
         flags,
-    );
-    let Told::Answer(number) = answer else {
-        return superko_answer(game, history, point);
-    };
-    number
+    )
+}
+
+// What is told before a stone is laid: the answer, or that the records decide.
+pub fn told_at(game: Game, flags: u8, row: u8, column: u8) -> Told
+    requires { ⌜ TrueBoard (game .board) ⌝ }
+    ensures { λ r. ⌜ ToldAt game flags row column r ⌝ }
+{
+    let spot = spot_at(game.board, row, column);
+    match spot {
+        Spot::Off => Told::Answer(OFF_BOARD),
+        Spot::Stone => Told::Answer(POINT_NOT_EMPTY),
+        Spot::Empty(point) => told_there(game, flags, point),
+    }
 }
 
 // The answer of a true state whose history was judged too.
@@ -77,10 +88,9 @@ pub fn point_answer(game: Game, history: &[u8], flags: u8, row: u8, column: u8) 
     requires { ⌜ TrueState game × RoomIn game (length (now history)) ⌝ }
     ensures { λ r. ⌜ r ≡ number (pointAnswer (viewOf game) (now (history .entry)) flags row column) ⌝ }
 {
-    let spot = spot_at(game.board, row, column);
-    match spot {
-        Spot::Off => OFF_BOARD,
-        Spot::Stone => POINT_NOT_EMPTY,
-        Spot::Empty(point) => forbidden_answer(game, history, flags, point),
-    }
+    let answer = told_at(game, flags, row, column);
+    let Told::Answer(number) = answer else {
+        return superko_answer(game, history, two_to_1dim(game.board.width, row, column));
+    };
+    number
 }

@@ -18,13 +18,33 @@ ghost use Rattle.rules.specs.Records.{recorded};
 ghost use Rattle.rules.specs.Calls.{resulting};
 ghost use Rattle.legality.specs.Near.{besides, caught, catchesMore};
 ghost use Rattle.game.specs.View.{viewOf};
-ghost use Rattle.checking.specs.Told.{superkoTold};
+ghost use Rattle.checking.specs.Told.{superkoTold, known, undecided};
 ghost use Rattle.checking.specs.Asking.{Repeating};
 
 // What is told of a point before any stone is laid: the number that is answered, or that the records decide, between 0 and 8.
 pub enum Told {
     Answer(u8),
     IfRecorded,
+}
+
+// The number that is told, 0 where the records decide.
+pub fn known_answer(answer: Told) -> u8
+    ensures { λ r. ⌜ r ≡ known answer ⌝ }
+{
+    let Told::Answer(number) = answer else {
+        return ACCEPTED;
+    };
+    number
+}
+
+// The records decide.
+pub fn is_undecided(answer: Told) -> bool
+    ensures { λ r. ⌜ r ≡ undecided answer ⌝ }
+{
+    let Told::Answer(_) = answer else {
+        return true;
+    };
+    false
 }
 
 // The superko test, up to where the stone would have to be laid.

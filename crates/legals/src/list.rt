@@ -3,6 +3,7 @@
 use checking::point::is_ko_point;
 use checking::refusal::told;
 use checking::superko::Told;
+use checking::superko::is_undecided;
 use checking::superko::repeats;
 use game::calls::player_of;
 use game::judge::judge_with;
@@ -29,7 +30,6 @@ ghost use Rattle.legality.specs.Seen.{Shows};
 ghost use Rattle.listing.specs.Front.{Front};
 ghost use Rattle.game.specs.View.{viewOf, TrueState, RoomIn};
 ghost use Rattle.checking.specs.Promise.{Filled};
-ghost use Rattle.checking.specs.Told.{undecided};
 ghost use Rattle.legals.specs.Legals.{toldAt, settledFree, refused, Filling};
 
 // What is told of a point of the board before any stone is laid.
@@ -72,16 +72,6 @@ fn is_free(answer: Told) -> bool
         return false;
     };
     number == ACCEPTED
-}
-
-// The records decide.
-fn is_undecided(answer: Told) -> bool
-    ensures { λ r. ⌜ r ≡ undecided answer ⌝ }
-{
-    let Told::Answer(_) = answer else {
-        return true;
-    };
-    false
 }
 
 // Writes the legal points from the front of the buffer on, and answers how many there are.

@@ -1,22 +1,25 @@
--- Laws of Asking: a capture may be laid whatever the flags forbid, and what the tests tell of what stands near is the rules' answer.
+-- Laws of Asking: a capture may be laid whatever the flags forbid, what the tests tell of what stands near is the rules' answer, and a
+-- stone that passes what is told may be laid.
 use mathlib.Core.Bool.{Bool, true, false, not, _&&_}
-use mathlib.Core.List.{List}
-use mathlib.Core.Path.{_≡_, sym, ap, _∙_, subst}
+use mathlib.Core.List.{List, []}
+use mathlib.Core.Path.{_≡_, refl, sym, ap, _∙_, subst}
 use Prim.Native.Nat.{ℕ}
 use native.Mathlib.Omega.{arith}
 use lib.Dec.{eqb}
+use lib.ListN.{length}
 use borrow.Author.Tests.{not-true}
 use Rattle.rules.specs.Lists.{any}
-use Rattle.rules.specs.Points.{neighbours}
+use Rattle.rules.specs.Points.{index, neighbours}
 use Rattle.rules.specs.Colours.{empty, other, at}
 use Rattle.rules.specs.Records.{recorded}
 use Rattle.rules.specs.Flags.{SUICIDE, FILLEYE, forbids}
 use Rattle.rules.specs.Tests.{inAtari, suicide, ko, eye, captures, superko}
-use Rattle.rules.specs.Answers.{OffBoard, PointNotEmpty, number}
+use Rattle.rules.specs.Answers.{OffBoard, PointNotEmpty, number, accepts}
 use Rattle.rules.specs.Calls.{offBoard, taken, resulting, forbiddenAnswer, pointAnswer}
 use Rattle.rules.specs.Laws.Lists.{and-right, not-yes, not-both}
 use Rattle.board.specs.Board.{coloursOf}
-use Rattle.rules.specs.Laws.Answers.{refused-then, passed-then}
+use Rattle.rules.specs.Laws.Answers.{zero-accepts, refused-then, passed-then}
+use Rattle.rules.specs.Laws.Calls.{accepted-on, accepted-empty, accepted-no-suicide}
 use Rattle.laying.specs.Laying.{Laying}
 use Rattle.legality.specs.declared.near.Near.{Near}
 use Rattle.legality.specs.Near.{nearOf, besides, saves, catchesMore, caught}
@@ -26,9 +29,10 @@ use Rattle.game.specs.Laws.View.{turn-player}
 use Rattle.checking.specs.declared.spot.Spot.{Spot}
 use Rattle.checking.specs.declared.spot.Spot.the-variants.{Off, Stone, Empty}
 use Rattle.checking.specs.declared.superko.Told.{Told}
+use Rattle.checking.specs.declared.superko.Told.the-variants.{Answer, IfRecorded}
 use Rattle.checking.specs.Spot.{spotOf}
-use Rattle.checking.specs.Told.{atKo, toldOf, settled, undecided}
-use Rattle.checking.specs.Asking.{Asking, Repeating}
+use Rattle.checking.specs.Told.{atKo, toldOf, settled, known, undecided}
+use Rattle.checking.specs.Asking.{Asking, Repeating, Tells, ToldAt}
 use Rattle.checking.specs.Laws.Spot.{Free, off-outside, stone-taken, empty-free, free-on, free-empty}
 use Rattle.checking.specs.Laws.Near.{own-suicide, its-ko, own-captures}
 use Rattle.checking.specs.Laws.Told.{told-settled, told-eye, told-captures}
@@ -83,6 +87,28 @@ module _ (g : Game) (bytes : List ℕ) (flags r c : ℕ) (s : Spot) (found : s �
     empty-asking n state room =
         record { state = state; room = room; on = free-on _ _ _ r c p free; empty = free-empty _ _ _ r c p free }
 
+-- so it is told
+module _ (g : Game) (flags r c : ℕ) (s : Spot) (found : s ≡ spotOf (g .board .height) (g .board .width) (coloursOf (g .board)) r c) where
+  pub told-off : s ≡ Off → ToldAt g flags r c (Answer 5)
+  told-off e = record { settles = λ bytes. off-answer g bytes flags r c s found e; repeating = λ u. absurd (not-both u refl) }
+
+  pub told-stone : s ≡ Stone → ToldAt g flags r c (Answer 6)
+  told-stone e = record { settles = λ bytes. stone-answer g bytes flags r c s found e; repeating = λ u. absurd (not-both u refl) }
+
+  pub told-empty : (p : ℕ) → s ≡ Empty p → (t : Told) → Tells g flags p t → ToldAt g flags r c t
+  told-empty p e t tells =
+      let here = empty-free _ _ _ r c p (sym found ∙ e) .here in
+      record {
+        settles =
+            λ bytes.
+            ap (λ (q : ℕ). settled t (recorded bytes (g .records) (resulting (viewOf g) q))) (sym here)
+            ∙ tells .settles bytes
+            ∙ empty-answer g bytes flags r c s found p e;
+        repeating =
+            λ u n state room.
+            subst (Repeating g n) here (record { asking = empty-asking g [] flags r c s found p e n state room; captures = tells .captures u });
+      }
+
 -- ---- What the tests tell
 
 -- e is what the eye test says, where it is asked
@@ -115,6 +141,32 @@ module _ (g : Game) (flags p : ℕ) (n : Near) (near : n ≡ nearOf (g .board .h
       ∙ told-settled flags (suicide h w cols (turnOf (g .turn)) p) (ko h w cols (koOf (g .ko)) p) (eye h w cols (turnOf (g .turn)) p)
       (captures h w cols (turnOf (g .turn)) p) (g .records) (recorded bytes (g .records) (resulting (viewOf g) p))
 
+  told-capturing : undecided t ≡ true → captures h w cols (turnOf (g .turn)) p ≡ true
+  told-capturing u = told-captures flags _ _ _ _ (g .records) (ap undecided (sym by-rules) ∙ u)
+
   pub told-repeating : (len : ℕ) → Asking g len p → undecided t ≡ true → Repeating g len p
-  told-repeating len asking u =
-      record { asking = asking; captures = told-captures flags _ _ _ _ (g .records) (ap undecided (sym by-rules) ∙ u) }
+  told-repeating len asking u = record { asking = asking; captures = told-capturing u }
+
+  pub told-tells : Tells g flags p t
+  told-tells = record { settles = told-forbidden; captures = told-capturing }
+
+-- ---- What passes so far may be laid
+
+module _ (g : Game) (bytes : List ℕ) (r c : ℕ) (is : TrueState g) (room : RoomIn g (length bytes)) where
+  abbrev point : ℕ
+  point = index (g .board .width) r c
+
+  accepted-laying : accepts (pointAnswer (viewOf g) bytes (g .flags) r c) ≡ true → Laying (g .board) point (turnOf (g .turn)) (g .flags)
+  unfolding viewOf
+  accepted-laying ok =
+      record {
+        board = is .board;
+        on = accepted-on (viewOf g) bytes r c (g .flags) ok;
+        empty = accepted-empty (viewOf g) bytes r c (g .flags) ok;
+        player = turn-player (g .turn);
+        allowed = accepted-no-suicide (viewOf g) bytes r c (g .flags) ok;
+      }
+
+  pub told-laying : (t : Told) → ToldAt g (g .flags) r c t → known t ≡ 0 → Laying (g .board) point (turnOf (g .turn)) (g .flags)
+  told-laying (Answer n) told z = accepted-laying (zero-accepts (pointAnswer (viewOf g) bytes (g .flags) r c) n (told .settles bytes) z)
+  told-laying IfRecorded told z = repeating-laying g (length bytes) point (told .repeating refl (length bytes) is room) (turnOf (g .turn)) refl

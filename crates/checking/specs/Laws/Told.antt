@@ -11,7 +11,7 @@ use Rattle.rules.specs.Laws.Lists.{not-both}
 use Rattle.rules.specs.Laws.Answers.{accepts-zero, refuses-other}
 use Rattle.checking.specs.declared.superko.Told.{Told}
 use Rattle.checking.specs.declared.superko.Told.the-variants.{Answer, IfRecorded}
-use Rattle.checking.specs.Told.{superkoTold, firstRefusal, toldOf, settled, undecided}
+use Rattle.checking.specs.Told.{superkoTold, firstRefusal, toldOf, settled, known, undecided}
 
 -- ---- What it settles to
 
@@ -126,3 +126,17 @@ pub told-captures :
     (flags : ℕ) (suicide ko eye captures : Bool) (records : ℕ) → undecided (toldOf flags suicide ko eye captures records) ≡ true → captures ≡ true
 told-captures flags suicide ko eye true records e = refl
 told-captures flags suicide ko eye false records e = absurd (not-both e (told-silent flags suicide ko eye records))
+
+-- ---- What is known before the stone is laid
+
+pub known-settles : (t : Told) → known t ≢ 0 → (again : Bool) → settled t again ≡ known t
+known-settles (Answer n) other again = refl
+known-settles IfRecorded other again = absurd (other refl)
+
+-- what passes so far settles by whether the board is recorded, which is looked for only where that decides
+pub passed-settles :
+    (t : Told) (again recorded : Bool) → known t ≡ 0 → (undecided t ≡ true → again ≡ recorded) → (undecided t ≡ false → again ≡ false)
+    → settled t recorded ≡ number (refuse answers.SuperKo again)
+unfolding refuse number
+passed-settles (Answer n) again recorded z looked skipped = z ∙ sym (ap (λ (b : Bool). number (refuse answers.SuperKo b)) (skipped refl))
+passed-settles IfRecorded again recorded z looked skipped = ap (λ (b : Bool). number (refuse answers.SuperKo b)) (sym (looked refl))
