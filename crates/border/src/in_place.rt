@@ -1,5 +1,6 @@
 // The calls on a game that is changed where it stands, for hosts that hold one: the game is taken out, the call by value answers, and what
 // it gives is stored.
+use crate::calls::samtrekhu_replay;
 use game::calls::pass;
 use game::calls::resign;
 use game::calls::resume;
@@ -7,7 +8,6 @@ use game::state::Game;
 use playing::handicap::handicap;
 use playing::stone::stone;
 use replaying::replay::Move;
-use replaying::replay::replay;
 ghost use mathlib.Core.List.{[]};
 ghost use lib.ListN.{length};
 ghost use Rattle.rules.specs.Calls as rules;
@@ -76,6 +76,7 @@ pub struct ReplayedInPlace {
     pub answer: u8,
 }
 
+// Over the call of the border, so that the replay itself is called from one place only and is compiled into it: less stack.
 #[no_mangle]
 pub extern "C" fn samtrekhu_replay_in_place(
     game: &mut Game,
@@ -84,7 +85,7 @@ pub extern "C" fn samtrekhu_replay_in_place(
 ) -> ReplayedInPlace
     ensures { λ r. ⌜ Replays (TrueState (now (game .entry)) × RoomIn (now (game .entry)) (length (now (history .entry)))) (rules.replay (viewOf (now (game .entry))) (now (history .entry)) (entriesOf (now (moves .entry)))) (now (game .entry)) (now (history .entry)) (whole r (now (game .exit))) (now (history .exit)) ⌝ }
 {
-    let replayed = replay(*game, history, moves);
+    let replayed = samtrekhu_replay(*game, history, moves);
     *game = replayed.game;
     ReplayedInPlace {
         entries: replayed.entries,

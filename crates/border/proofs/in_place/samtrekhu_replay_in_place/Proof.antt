@@ -53,9 +53,9 @@ use Rattle.replaying.proofs.replay.Move as E
 use Rattle.replaying.proofs.replay.Replayed as R
 use Rattle.replaying.proofs.replay.Replayed.Laws as R′
 use Rattle.replaying.proofs.Values.{GameIs, replayedVal, game-typed, replayed-typed}
-use Rattle.replaying.proofs.replay.replay as inner
-use Rattle.replaying.proofs.replay.replay.Symbol as inner-def
-use Rattle.replaying.proofs.replay.replay.Met as inner-thm
+use Rattle.border.proofs.calls.samtrekhu_replay as inner
+use Rattle.border.proofs.calls.samtrekhu_replay.Symbol as inner-def
+use Rattle.border.proofs.calls.samtrekhu_replay.Met as inner-thm
 use Rattle.border.specs.declared.in_place.ReplayedInPlace.{ReplayedInPlace}
 use Rattle.border.proofs.in_place.ReplayedInPlace as I
 use Rattle.border.proofs.in_place.ReplayedInPlace.Laws as I′
@@ -252,4 +252,4 @@ samtrekhu-replay-in-place-spec 𝓤 H 𝓜 𝓖 𝓡 =
     entered 𝓤 H (tripleOf 𝓤 H (𝓖 .A) outer.signature (outer.spec 𝓤 H (𝓖 .A) (𝓜 .mem) (𝓡 .run)))
     (tables 𝓤 H 𝓜 𝓡 code.env .C) (tables 𝓤 H 𝓜 𝓡 code.env .Λ) name code.function (code.unfolded 𝓤 H 𝓜 𝓡)
     (outer-meets 𝓤 H (𝓖 .A) (givenOf 𝓤 H 𝓜 𝓖) (𝓜 .mem) (𝓡 .run) (tablesOf 𝓤 H 𝓜 (tables 𝓤 H 𝓜 𝓡 code.env))
-    (cited 𝓤 H (Inner 𝓤 H (𝓖 .A) (𝓜 .mem) (𝓡 .run)) 𝓜 𝓡 code.env inner-def.name inner-def.routine code.calls-replaying·replay·replay (inner-thm.met 𝓤 H 𝓜 𝓖 𝓡)))
+    (cited 𝓤 H (Inner 𝓤 H (𝓖 .A) (𝓜 .mem) (𝓡 .run)) 𝓜 𝓡 code.env inner-def.name inner-def.routine code.calls-border·calls·samtrekhu-replay (inner-thm.met 𝓤 H 𝓜 𝓖 𝓡)))
