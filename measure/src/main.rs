@@ -128,7 +128,9 @@ fn position(side: u8, stones: usize, random: &mut Random, history: &mut [u8]) ->
     let mut tries = 0;
     while usize::from(game.accepted) < stones && tries < 100 * stones {
         tries += 1;
-        unsafe { samtrekhu_stone_in_place(&mut game, history.as_mut_ptr(), history.len(), random.below(side.into()) as u8, random.below(side.into()) as u8) };
+        unsafe {
+            samtrekhu_stone_in_place(&mut game, history.as_mut_ptr(), history.len(), random.below(side.into()) as u8, random.below(side.into()) as u8)
+        };
     }
     game
 }

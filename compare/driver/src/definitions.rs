@@ -4,9 +4,9 @@ use crate::antt::{self, Said};
 use crate::call::Call;
 use crate::generate::{self, Scope, Step};
 use crate::program::Program;
-use random::Random;
 use crate::sample;
 use plain::Reason;
+use random::Random;
 use std::collections::BTreeMap;
 use std::path::Path;
 

@@ -1,8 +1,8 @@
 //! The families of games: which sizes, and which calls.
 
 use crate::generate::{self, Scope, Step};
-use random::Random;
 use crate::{limit, words};
+use random::Random;
 
 #[derive(Clone, Copy, PartialEq, Eq)]
 pub enum Family {

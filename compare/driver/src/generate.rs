@@ -1,10 +1,10 @@
 //! Random games. A model of the game steers them to where the rules bite: kos, ataris, eyes, stones just taken.
 
 use crate::call::{follow, narrow_points, Call};
-use random::Random;
 use plain::board::{BLACK, EMPTY, WHITE};
 use plain::slips::Slip;
 use plain::{Game, Reason};
+use random::Random;
 
 /// What the calls of a game may be.
 #[derive(Clone, Copy)]

@@ -4,8 +4,8 @@
 use crate::call::Call;
 use crate::generate::{self, Scope};
 use crate::program::Program;
-use random::Random;
 use plain::board::{Board, BLACK, EMPTY, WHITE};
+use random::Random;
 use std::collections::BTreeSet;
 
 const KO: u8 = 1;

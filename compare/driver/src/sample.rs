@@ -3,9 +3,9 @@
 use crate::call::{follow, Call};
 use crate::generate::{self, Scope, Step};
 use crate::kinds::kinds;
-use random::Random;
 use plain::slips::Slip;
 use plain::{Game, Reason};
+use random::Random;
 use std::collections::{BTreeMap, BTreeSet};
 
 /// How many games are looked at, and how far into each.

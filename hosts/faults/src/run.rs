@@ -5,8 +5,8 @@ use crate::check::{wrong, Verdict};
 use crate::damage::{Scene, KINDS};
 use crate::judge::Judge;
 use crate::play::{fresh, Played};
-use random::Random;
 use crate::text;
+use random::Random;
 use samtrekhu::raw::*;
 use std::thread;
 

@@ -38,14 +38,15 @@ fn a_judge_without_a_clause_is_noticed() {
 
 #[test]
 fn a_difference_is_shown_on_a_small_board() {
-    let weak = plan(&[Clause::Hash]);
-    let found = run(&weak).err().expect("a difference");
-    assert_eq!(shrunk(&weak, found).sides, (1, 1));
+    let points = |clause| {
+        let weak = plan(&[clause]);
+        let found = run(&weak).err().expect("a difference");
+        let (height, width) = shrunk(&weak, found).sides;
+        height * width
+    };
+    assert!(points(Clause::Hash) <= 2);
     // two stones side by side with a liberty each
-    let weak = plan(&[Clause::Largest]);
-    let found = run(&weak).err().expect("a difference");
-    let (height, width) = shrunk(&weak, found).sides;
-    assert_eq!(height * width, 4);
+    assert!((4..=6).contains(&points(Clause::Largest)));
 }
 
 #[test]

@@ -7,12 +7,11 @@ use random::Random;
 use samtrekhu::{Board, Colour, Flags, Game, Move, Player, Point, Refusal};
 use std::thread;
 
-/// A thread of this size has room for every call but a replay.
+/// A thread of this size has room for every call.
 const STACK: usize = 262_144;
-/// A replay in place takes about 276,000 bytes, the thread's own start some thousand more.
-const REPLAY_STACK: usize = STACK + 32_768;
 
-/// Every question of a game and of its board at one point, whatever they answer.
+/// Every question of a game and of its board at one point, whatever they answer. Not inlined: the boards that it passes would be on the caller's stack.
+#[inline(never)]
 fn ask(game: &Game, point: Point) -> Result<(), Refusal> {
     assert!(game.is_true());
     let _ = (game.check_point(point), game.check_point_by(Flags::ALL, point));
@@ -92,7 +91,7 @@ fn every_call_fits_on_a_small_stack() {
     for (side, byte) in [(2, 8), (3, 11), (5, 0), (9, 15), (19, 0), (19, 11), (19, 15)] {
         let flags = Flags::from_byte(byte);
         assert!(on_thread(STACK, move || play(side, flags, 7, 320, stone)).join().expect("no overflow").is_ok());
-        assert!(on_thread(REPLAY_STACK, move || play(side, flags, 7, 320, replay)).join().expect("no overflow").is_ok());
+        assert!(on_thread(STACK, move || play(side, flags, 7, 320, replay)).join().expect("no overflow").is_ok());
     }
 }
 

@@ -48,6 +48,9 @@ impl Cost {
 struct Asked {
     fresh: Game,
     game: Game,
+    /// copies of the two, for the calls that change a game where it stands
+    fresh_again: Game,
+    game_again: Game,
     flags: u8,
     row: u8,
     column: u8,
@@ -90,10 +93,13 @@ fn calls() -> Vec<Call> {
         call!("get_empty_coords", |a| samtrekhu_get_empty_coords(a.game.board, a.points.as_mut_ptr(), a.points.len()).number),
         call!("chain_stones", |a| samtrekhu_chain_stones(a.game.board, a.row, a.column, a.points.as_mut_ptr(), a.points.len()).number),
         call!("chain_liberties", |a| samtrekhu_chain_liberties(a.game.board, a.row, a.column, a.points.as_mut_ptr(), a.points.len()).number),
-        call!("get_connected_points", |a| samtrekhu_get_connected_points(a.game.board, a.row, a.column, a.points.as_mut_ptr(), a.points.len()).number),
-        call!("get_connected_stones", |a| samtrekhu_get_connected_stones(a.game.board, a.row, a.column, a.points.as_mut_ptr(), a.points.len()).number),
+        call!("get_connected_points", |a| samtrekhu_get_connected_points(a.game.board, a.row, a.column, a.points.as_mut_ptr(), a.points.len())
+            .number),
+        call!("get_connected_stones", |a| samtrekhu_get_connected_stones(a.game.board, a.row, a.column, a.points.as_mut_ptr(), a.points.len())
+            .number),
         call!("get_liberties", |a| samtrekhu_get_liberties(a.game.board, a.row, a.column, a.points.as_mut_ptr(), a.points.len()).number),
-        call!("get_connected_groups", |a| samtrekhu_get_connected_groups(a.game.board, a.row, a.column, a.points.as_mut_ptr(), a.points.len()).number),
+        call!("get_connected_groups", |a| samtrekhu_get_connected_groups(a.game.board, a.row, a.column, a.points.as_mut_ptr(), a.points.len())
+            .number),
         call!("to_vec", |a| samtrekhu_to_vec(a.game.board, a.bytes.as_mut_ptr(), a.bytes.len()).number),
         call!("pretty_string", |a| samtrekhu_pretty_string(a.game.board, a.bytes.as_mut_ptr(), a.bytes.len()).number),
         call!("new_game", |a| black_box(&samtrekhu_new_game(MAX_SIDE, MAX_SIDE, a.flags)).answer),
@@ -109,7 +115,8 @@ fn calls() -> Vec<Call> {
         call!("check_point", |a| samtrekhu_check_point(a.game, a.history.as_ptr(), a.history.len(), a.row, a.column)),
         call!("check_point_by", |a| samtrekhu_check_point_by(a.game, a.history.as_ptr(), a.history.len(), a.flags, a.row, a.column)),
         call!("legals", |a| samtrekhu_legals(a.game, a.history.as_ptr(), a.history.len(), a.points.as_mut_ptr(), a.points.len()).number),
-        call!("legals_by", |a| samtrekhu_legals_by(a.game, a.history.as_ptr(), a.history.len(), a.flags, a.points.as_mut_ptr(), a.points.len()).number),
+        call!("legals_by", |a| samtrekhu_legals_by(a.game, a.history.as_ptr(), a.history.len(), a.flags, a.points.as_mut_ptr(), a.points.len())
+            .number),
         call!("facts_of", |a| samtrekhu_facts_of(a.game).answer),
         call!("is_true_game", |a| u8::from(!samtrekhu_is_true_game(a.game))),
         call!("is_true_game_with", |a| u8::from(!samtrekhu_is_true_game_with(a.game, a.history.len()))),
@@ -120,13 +127,13 @@ fn calls() -> Vec<Call> {
         call!("is_ko_at", |a| samtrekhu_is_ko_at(a.game, a.row, a.column).answer),
         call!("is_eye_at", |a| samtrekhu_is_eye_at(a.game, a.row, a.column).answer),
         call!("is_superko_at", |a| samtrekhu_is_superko_at(a.game, a.history.as_ptr(), a.history.len(), a.row, a.column).answer),
-        call!("pass_in_place", |a| samtrekhu_pass_in_place(&mut a.game.clone())),
-        call!("resign_in_place", |a| samtrekhu_resign_in_place(&mut a.game.clone(), 1)),
-        call!("resume_in_place", |a| samtrekhu_resume_in_place(&mut a.game.clone())),
-        call!("handicap_in_place", |a| samtrekhu_handicap_in_place(&mut a.fresh.clone(), SPOTS.as_ptr(), SPOTS.len())),
+        call!("pass_in_place", |a| samtrekhu_pass_in_place(&mut a.game_again)),
+        call!("resign_in_place", |a| samtrekhu_resign_in_place(&mut a.game_again, 1)),
+        call!("resume_in_place", |a| samtrekhu_resume_in_place(&mut a.game_again)),
+        call!("handicap_in_place", |a| samtrekhu_handicap_in_place(&mut a.fresh_again, SPOTS.as_ptr(), SPOTS.len())),
         call!("replay_in_place of one stone", |a| {
             let one = Move { kind: kinds::STONE, row: a.row, column: a.column };
-            samtrekhu_replay_in_place(&mut a.game.clone(), a.history.as_mut_ptr(), a.history.len(), &one, 1).answer
+            samtrekhu_replay_in_place(&mut a.game_again, a.history.as_mut_ptr(), a.history.len(), &one, 1).answer
         }),
         // last, since it changes the game that the next round asks about
         call!("stone_in_place", |a| samtrekhu_stone_in_place(&mut a.game, a.history.as_mut_ptr(), a.history.len(), a.row, a.column)),
@@ -143,6 +150,8 @@ fn main() {
         let mut asked = Box::new(Asked {
             fresh,
             game: fresh,
+            fresh_again: fresh,
+            game_again: fresh,
             flags,
             row: 0,
             column: 0,
@@ -156,6 +165,7 @@ fn main() {
             let game = asked.game;
             unsafe { samtrekhu_to_vec(game.board, asked.colours.as_mut_ptr(), MAX_AREA) };
             for (cost, (_, call)) in costs.iter_mut().zip(&calls) {
+                (asked.fresh_again, asked.game_again) = (asked.fresh, asked.game);
                 cost.see(idle, &mut || call(&mut asked));
             }
         }
