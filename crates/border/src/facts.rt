@@ -2,15 +2,12 @@
 use game::asks::Outcome;
 use game::asks::facts_of;
 use game::state::Game;
-use game::state::NO_POINT;
 use game::state::Tally;
-use points::coord::Place;
+use playing::count::ko_number;
 use points::stones::EMPTY;
 ghost use mathlib.Core.Path.{_≡_};
-ghost use Rattle.points.specs.Place.{placeOf, Within};
-ghost use Rattle.game.specs.View.{noPoint};
 ghost use Rattle.game.specs.Asks.{namedOf};
-ghost use Rattle.border.specs.Facts.{koNumber, outcomeNumber, Asked};
+ghost use Rattle.border.specs.Facts.{outcomeNumber, Asked};
 
 #[repr(C)]
 pub struct Facts {
@@ -32,16 +29,6 @@ pub struct Facts {
     pub prisoners: Tally,
     // records that the history holds
     pub records: usize,
-}
-
-fn ko_number(ko: Place) -> u16
-    requires { ⌜ Within noPoint (placeOf ko) ⌝ }
-    ensures { λ r. ⌜ r ≡ koNumber (placeOf ko) ⌝ }
-{
-    let Place::At(point) = ko else {
-        return NO_POINT;
-    };
-    point as u16
 }
 
 fn outcome_number(outcome: Outcome) -> u8

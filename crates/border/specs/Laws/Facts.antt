@@ -1,19 +1,21 @@
 -- Laws of the facts: a ko point is a number below that of none, and two answers that meet the promise are the same.
 use mathlib.Core.Path.{_≡_, refl, sym, ap, _∙_}
-use mathlib.Core.Bool.{true}
+use mathlib.Core.Bool.{Bool, true, false, cond}
 use mathlib.Core.Logic.{⊎-elim}
 use mathlib.Core.Option.{Option, none, some, Option·none-ne-some}
 use Prim.Native.Nat.{ℕ, _<_}
 use native.Mathlib.Omega.{arith}
-use Rattle.rules.specs.Laws.Lists.{not-both, not-no, below-or-not, both-ways, same-answer}
+use lib.Dec.{eqb}
+use borrow.Author.Tests.{eqb-true}
+use Rattle.rules.specs.Laws.Lists.{not-both, not-no, decided, below-or-not, both-ways, same-answer}
 use Rattle.board.specs.Laws.Board.{area-fits}
 use Rattle.points.specs.Place.{placeOf, Within}
 use Rattle.game.specs.declared.state.Game.{Game}
 use Rattle.game.specs.declared.asks.Facts as asks
-use Rattle.game.specs.View.{noPoint, TrueState}
+use Rattle.game.specs.View.{noPoint, koOf, TrueState}
 use Rattle.game.specs.Asks as asked
 use Rattle.border.specs.declared.facts.Facts.{Facts}
-use Rattle.border.specs.Facts.{Asked}
+use Rattle.border.specs.Facts.{koNumber, Asked}
 
 within : {n : ℕ} (o : Option ℕ) → ((p : ℕ) → o ≡ some p → p < n) → Within n o
 within none f = tt
@@ -29,6 +31,16 @@ ko-within g f a =
     let untrue : ¬ TrueState g = λ t. let on = t .game .koOn p (sym (a .told t .ko) ∙ at) in let few = area-fits (t .game .size) in omega arith in
     absurd (Option·none-ne-some p (sym (ap (λ (x : asks.Facts). placeOf (x .ko)) (a .damaged untrue)) ∙ at)))
     (below-or-not p noPoint))
+
+-- the number that the state keeps for the ko point is the one that is told
+pub ko-told : (x : ℕ) (o : Option ℕ) → koOf x ≡ o → x ≡ koNumber o
+unfolding koOf
+ko-told x o e =
+    ⊎-elim
+    (λ (y : eqb x noPoint ≡ true). eqb-true x noPoint y ∙ sym (ap (λ (t : Bool). koNumber (cond t none (some x))) y))
+    (λ (f : eqb x noPoint ≡ false). sym (ap (λ (t : Bool). koNumber (cond t none (some x))) f))
+    (decided (eqb x noPoint))
+    ∙ ap koNumber e
 
 module _ {g : Game} {r r′ : Facts} (p : Asked g r) (q : Asked g r′) where
   number : (field : Facts → ℕ) → field r ≡ field r′

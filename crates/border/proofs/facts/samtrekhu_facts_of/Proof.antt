@@ -3,7 +3,7 @@ use mathlib.Core.Path.{ap, _∙_}
 use Rattle.rules.specs.Answers.{number}
 use Rattle.game.specs.Asks as asked
 use Rattle.border.specs.Facts.{koNumber, outcomeNumber, noFacts, factsOf}
-use Rattle.border.specs.Laws.Facts.{ko-within}
+use Rattle.border.specs.Laws.Facts.{ko-within, ko-told}
 use borrow.Author.Needs.{needs}
 use Rattle.border.proofs.facts.samtrekhu_facts_of.Statement.{statement}
 use Rattle.border.proofs.facts.samtrekhu_facts_of.Tie as tie
@@ -22,7 +22,7 @@ unfolding number noFacts factsOf asked.noFacts
 returns c =
     let a = c .before .before .before .facts-of .ensures in
     record {
-      damaged = λ n. rw (c .outcome-number .ensures, c .before .ko-number .ensures, a .damaged n);
+      damaged = λ n. rw (c .outcome-number .ensures, ko-told _ _ (c .before .ko-number .ensures), a .damaged n);
       told =
           λ t i.
           record {
@@ -34,7 +34,7 @@ returns c =
             passes = a .told t .passes i;
             outcome = (c .outcome-number .ensures ∙ ap outcomeNumber (a .told t .outcome)) i;
             over = a .told t .over i;
-            ko = (c .before .ko-number .ensures ∙ ap koNumber (a .told t .ko)) i;
+            ko = (ko-told _ _ (c .before .ko-number .ensures) ∙ ap koNumber (a .told t .ko)) i;
             handicap = a .told t .handicap i;
             accepted = a .told t .accepted i;
             prisoners = record { black = a .told t .blackHeld i; white = a .told t .whiteHeld i };
