@@ -3,12 +3,13 @@
 use mathlib.Core.Path.{_≡_}
 use mathlib.Core.List.{List}
 use mathlib.Core.Logic.{_≢_}
-use mathlib.Core.Bool.{true}
-use Prim.Native.Nat.{ℕ, _<_}
+use mathlib.Core.Bool.{Bool, cond}
+use Prim.Native.Nat.{ℕ}
+use lib.Dec.{eqb}
 use lib.ListN.{length}
 use Rattle.rules.specs.Sizes.{maxStones}
-use Rattle.rules.specs.Answers.{number, accepts}
-use Rattle.rules.specs.Calls.{Result, pointAnswer, stoneAnswer}
+use Rattle.rules.specs.Answers.{Answer, number, refuse, _then_, GamePaused, SuperKo, MoveLimit, HistoryFull}
+use Rattle.rules.specs.Calls.{Result}
 use Rattle.game.specs.declared.state.Game.{Game}
 use Rattle.game.specs.View.{viewOf, TrueState, RoomIn}
 
@@ -23,14 +24,12 @@ pub record CalledTrue (call : Result) (g : Game) (bytes : List ℕ) (answer : �
   -- refused: the very same state and bytes
   pub refused : answer ≢ 0 → (g′ ≡ g) × (bytes′ ≡ bytes)
 
--- what the tests of a stone have answered, all but the one for room: the answer of the rules, or that each lets it pass
-pub record Tested (g : Game) (bytes : List ℕ) (r c answer : ℕ) : Type 0 where
-  pub refused : answer ≢ 0 → answer ≡ number (stoneAnswer (viewOf g) bytes r c)
-  pub unpaused : answer ≡ 0 → g .passes ≢ 2
-  pub point : answer ≡ 0 → accepts (pointAnswer (viewOf g) bytes (g .flags) r c) ≡ true
-  pub more : answer ≡ 0 → g .accepted < maxStones
+-- ---- The tests of a stone, as they are asked
 
-pub record TestsDone (g : Game) (bytes : List ℕ) (r c answer : ℕ) : Type 0 where
-  pub state : TrueState g
-  pub room : RoomIn g (length bytes)
-  pub tested : Tested g bytes r c answer
+-- before it is laid: the pause, then what is known of the point
+unfoldable pub firstAnswer : ℕ → ℕ → ℕ
+firstAnswer passes known = cond (eqb passes 2) (number GamePaused) known
+
+-- once it is laid: by whether the board that it leaves is recorded, how many were accepted, and whether the history has no room
+unfoldable pub lastAnswer : Bool → ℕ → Bool → Answer
+lastAnswer again accepted full = refuse SuperKo again then refuse MoveLimit (eqb accepted maxStones) then refuse HistoryFull full

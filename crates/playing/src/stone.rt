@@ -3,11 +3,14 @@ use crate::count::held_after;
 use crate::count::ko_number;
 use crate::count::no_room;
 use crate::count::put_after;
-use checking::point::point_answer;
+use checking::point::told_at;
+use checking::superko::is_undecided;
+use checking::superko::known_answer;
 use game::calls::Answered;
 use game::calls::player_of;
 use game::judge::judge_with;
 use game::state::Game;
+use history::lent::is_recorded;
 use history::lent::note_board;
 use history::packing::record_of;
 use laying::lay::lay;
@@ -16,55 +19,75 @@ use points::answers::DAMAGED;
 use points::answers::GAME_PAUSED;
 use points::answers::HISTORY_FULL;
 use points::answers::MOVE_LIMIT;
+use points::answers::SUPER_KO;
 use points::coord::two_to_1dim;
 use points::sizes::MAX_STONES;
 use points::stones::other;
+ghost use mathlib.Core.Path.{_≡_};
 ghost use lib.ListN.{length};
+ghost use Rattle.rules.specs.Answers.{number};
 ghost use Rattle.rules.specs.Calls as rules;
 ghost use Rattle.game.specs.View.{viewOf, TrueState, RoomIn};
 ghost use Rattle.game.specs.Promise.{Called};
-ghost use Rattle.playing.specs.Promise.{Tested, TestsDone, CalledTrue};
+ghost use Rattle.playing.specs.Promise.{firstAnswer, lastAnswer, CalledTrue};
 
-// What the tests answer but the last, which is for room, in a state that is true already and has room for its records.
-fn tests_answer(game: Game, history: &[u8], row: u8, column: u8) -> u8
-    requires { ⌜ TrueState game × RoomIn game (length (now history)) ⌝ }
-    ensures { λ r. ⌜ Tested game (now (history .entry)) row column r ⌝ }
+// What is known before the stone is laid: the pause, then what is told of the point.
+fn first_answer(passes: u8, known: u8) -> u8
+    ensures { λ r. ⌜ r ≡ firstAnswer passes known ⌝ }
 {
-    if game.passes == 2 {
+    if passes == 2 {
         return GAME_PAUSED;
     }
-    let at_point = point_answer(game, history, game.flags, row, column);
-    if at_point != ACCEPTED {
-        return at_point;
+    known
+}
+
+// What is known of it once it is laid: the board it leaves is recorded, it is one stone too many, or there is no room for a record.
+fn last_answer(again: bool, accepted: u16, full: bool) -> u8
+    ensures { λ r. ⌜ r ≡ number (lastAnswer again accepted full) ⌝ }
+{
+    if again {
+        return SUPER_KO;
     }
-    if game.accepted == MAX_STONES {
+    if accepted == MAX_STONES {
         return MOVE_LIMIT;
+    }
+    if full {
+        return HISTORY_FULL;
     }
     ACCEPTED
 }
 
-// What a stone leaves, by the answer of the tests. They are done when this is called: two boards laid at once would need a deep stack.
-fn put_down(game: Game, history: &mut [u8], row: u8, column: u8, answer: u8) -> Answered
-    requires { ⌜ TestsDone game (now history) row column answer ⌝ }
+// A stone of the player to move, in a state that is true already and has room for its records. It is laid once, before the last tests:
+// a board that is not stored changes nothing. All is done in one function, since each that took the game would copy it.
+pub fn play(game: Game, history: &mut [u8], row: u8, column: u8) -> Answered
+    requires { ⌜ TrueState game × RoomIn game (length (now history)) ⌝ }
     ensures { λ r. ⌜ CalledTrue (rules.stone (viewOf game) (now (history .entry)) row column) game (now (history .entry)) (r .answer) (r .game) (now (history .exit)) ⌝ }
 {
-    if answer != ACCEPTED {
+    let told = told_at(game, game.flags, row, column);
+    let first = first_answer(game.passes, known_answer(told));
+    if first != ACCEPTED {
         return Answered {
-            answer: answer,
+            answer: first,
             game: game,
         };
     }
+    let mover = player_of(game.turn);
+    let point = two_to_1dim(game.board.width, row, column);
+    let laid = lay(game.board, point, mover, game.flags);
+    let mut again = false;
+    if is_undecided(told) {
+        let left = record_of(laid.board);
+        again = is_recorded(history, game.records, &left);
+    }
     let bytes = record_of(game.board);
-    if no_room(history, game.records, &bytes) {
+    let last = last_answer(again, game.accepted, no_room(history, game.records, &bytes));
+    if last != ACCEPTED {
         return Answered {
-            answer: HISTORY_FULL,
+            answer: last,
             game: game,
         };
     }
     let records = note_board(history, game.records, &bytes);
-    let mover = player_of(game.turn);
-    let point = two_to_1dim(game.board.width, row, column);
-    let laid = lay(game.board, point, mover, game.flags);
     let next = other(mover);
     let place = laid.ko;
     let ko = ko_number(place);
@@ -93,25 +116,7 @@ fn put_down(game: Game, history: &mut [u8], row: u8, column: u8, answer: u8) -> 
     }
 }
 
-// As `put_down`, on a copy of the game that lives no longer than for this.
-fn put_apart(game: Game, history: &mut [u8], row: u8, column: u8, answer: u8) -> Answered
-    requires { ⌜ TestsDone game (now history) row column answer ⌝ }
-    ensures { λ r. ⌜ CalledTrue (rules.stone (viewOf game) (now (history .entry)) row column) game (now (history .entry)) (r .answer) (r .game) (now (history .exit)) ⌝ }
-{
-    put_down(game, history, row, column, answer)
-}
-
-// A stone of the player to move, in a state that is true already and has room for its records.
-pub fn play(game: Game, history: &mut [u8], row: u8, column: u8) -> Answered
-    requires { ⌜ TrueState game × RoomIn game (length (now history)) ⌝ }
-    ensures { λ r. ⌜ CalledTrue (rules.stone (viewOf game) (now (history .entry)) row column) game (now (history .entry)) (r .answer) (r .game) (now (history .exit)) ⌝ }
-{
-    let answer = tests_answer(game, history, row, column);
-    put_apart(game, history, row, column, answer)
-}
-
-// A stone of the player to move, whatever the state and the bytes are. The two calls of `play` stand here again: a function that is
-// called from one place only is compiled into its caller, and their frames would be one.
+// A stone of the player to move, whatever the state and the bytes are.
 pub fn stone(game: Game, history: &mut [u8], row: u8, column: u8) -> Answered
     ensures { λ r. ⌜ Called (TrueState game × RoomIn game (length (now (history .entry)))) (rules.stone (viewOf game) (now (history .entry)) row column) game (now (history .entry)) (r .answer) (r .game) (now (history .exit)) ⌝ }
 {
@@ -121,6 +126,5 @@ pub fn stone(game: Game, history: &mut [u8], row: u8, column: u8) -> Answered
             game: game,
         };
     }
-    let answer = tests_answer(game, history, row, column);
-    put_down(game, history, row, column, answer)
+    play(game, history, row, column)
 }

@@ -1,25 +1,25 @@
 -- Laws of a stone: which test refuses it, what laying it may ask of an accepted one, and that the state which the code makes shows what
 -- the rules say and is true again.
 use mathlib.Core.Path.{_≡_, refl, sym, ap, _∙_, subst}
-use mathlib.Core.Bool.{true, false}
+use mathlib.Core.Bool.{Bool, true, false, cond}
 use mathlib.Core.List.{List}
-use mathlib.Core.Logic.{_≢_}
+use mathlib.Core.Logic.{_≢_, ⊎-elim}
 use mathlib.Core.Option.{some}
 use Prim.Native.Nat.{ℕ, _+_, _≤_, _<_}
 use native.Mathlib.Omega.{arith}
-use lib.Dec.{leb}
+use lib.Dec.{eqb, leb}
 use lib.ListN.{length}
-use borrow.Author.Tests.{eq-eqb, ne-eqb, le-leb, lt-leb}
+use borrow.Author.Tests.{eq-eqb, ne-eqb, eqb-false, le-leb, lt-leb}
 use Rattle.rules.specs.Sizes.{maxStones}
 use Rattle.rules.specs.Points.{index}
 use Rattle.rules.specs.Colours.{other}
-use Rattle.rules.specs.Move.{coloured, removed}
-use Rattle.rules.specs.Records.{full, capacity, bytesAfter}
-use Rattle.rules.specs.Answers.{Answer, number, accepts, refuse, _then_, Accepted, GamePaused, MoveLimit, HistoryFull}
+use Rattle.rules.specs.Move.{coloured, played, removed}
+use Rattle.rules.specs.Records.{recordOf, recorded, full, capacity, bytesAfter}
+use Rattle.rules.specs.Answers.{Answer, number, accepts, refuse, _then_, Accepted, GamePaused, SuperKo, MoveLimit, HistoryFull}
 use Rattle.rules.specs.Game as rules
 use Rattle.rules.specs.Calls.{paused, resulting, pointAnswer, stoneAnswer, stoneGame, stone}
+use Rattle.rules.specs.Laws.Lists.{equal-or-not}
 use Rattle.rules.specs.Laws.Colours.{other-player}
-use Rattle.rules.specs.Laws.Calls.{accepted-on, accepted-empty, accepted-no-suicide}
 use Rattle.rules.specs.Laws.Keep.{stone-keeps}
 use Rattle.rules.specs.Laws.Records.{bytesAfter-length, recordsAfter-fits}
 use Rattle.points.specs.declared.coord.Place.{Place}
@@ -29,13 +29,19 @@ use Rattle.board.specs.Board.{coloursOf}
 use Rattle.board.specs.Laws.Board.{area-fits}
 use Rattle.laying.specs.declared.lay.Laid.{Laid}
 use Rattle.laying.specs.Laying.{Laying, LaidOut}
-use Rattle.rules.specs.Laws.Answers.{then-refused, then-accepted, refuses, passes, test-refuses, test-passes, zero-accepts, other-refuses}
-use Rattle.history.specs.History.{Noted}
+use Rattle.rules.specs.Laws.Answers.{accepts-zero, refuses-other, then-refused, then-accepted, passes, test-refuses, test-passes, zero-accepts, other-refuses}
+use Rattle.history.specs.History.{among, Noted}
+use Rattle.history.specs.Laws.History.{among-recorded}
 use Rattle.game.specs.declared.state.Game.{Game}
 use Rattle.game.specs.declared.state.Tally.{Tally}
 use Rattle.game.specs.View.{noPoint, turnOf, koOf, outcomeOf, begunOf, viewOf, TrueState, RoomIn}
 use Rattle.game.specs.Laws.View.{turn-player}
-use Rattle.playing.specs.Promise.{Tested, TestsDone, CalledTrue}
+use Rattle.checking.specs.declared.superko.Told.{Told}
+use Rattle.checking.specs.Told.{known, undecided}
+use Rattle.checking.specs.Asking.{ToldAt}
+use Rattle.checking.specs.Laws.Told.{known-settles, passed-settles}
+use Rattle.checking.specs.Laws.Asking.{told-laying}
+use Rattle.playing.specs.Promise.{firstAnswer, lastAnswer, CalledTrue}
 use Rattle.playing.specs.After.{HeldAfter, PutAfter, stoned}
 use Rattle.playing.specs.Laws.Promise.{true-refused, true-accepted}
 use Rattle.playing.specs.Laws.Count.{turn-same, black-gone, white-gone}
@@ -74,7 +80,13 @@ module _ (g : rules.Game) (bytes : List ℕ) (r c : ℕ) where
       stone-last more =
           unpaused ∙ then-accepted atPoint (limit then noRoom) ok ∙ test-passes MoveLimit noRoom (lt-leb maxStones (g .accepted) more)
 
--- ---- The answer in a true state
+-- the answer counts by its number alone
+then-same : (a a′ b : Answer) → number a ≡ number a′ → number (a then b) ≡ number (a′ then b)
+then-same a a′ b e =
+    ⊎-elim
+    (λ z. ap number (then-accepted a b (accepts-zero a z)) ∙ sym (ap number (then-accepted a′ b (accepts-zero a′ (sym e ∙ z)))))
+    (λ n. ap number (then-refused a b (refuses-other a n)) ∙ e ∙ sym (ap number (then-refused a′ b (refuses-other a′ (λ z. n (e ∙ z))))))
+    (equal-or-not (number a) 0)
 
 -- every test lets the stone pass
 pub record Allowed (g : Game) (bytes : List ℕ) (r c : ℕ) : Type 0 where
@@ -83,57 +95,110 @@ pub record Allowed (g : Game) (bytes : List ℕ) (r c : ℕ) : Type 0 where
   pub more : g .accepted < maxStones
   pub free : full bytes (g .records) (coloursOf (g .board)) ≡ false
 
-module _ (g : Game) (bytes : List ℕ) (r c : ℕ) where
-  abbrev seen : rules.Game
-  seen = viewOf g
+none-refuses : (a b c : Bool) → number (refuse SuperKo a then refuse MoveLimit b then refuse HistoryFull c) ≡ 0 → (a ≡ false) × (b ≡ false) × (c ≡ false)
+unfolding refuse _then_ accepts number
+none-refuses true b c z = let e : _≡_ {A = ℕ} 8 0 = z in absurd (omega (arith, e))
+none-refuses false true c z = let e : _≡_ {A = ℕ} 10 0 = z in absurd (omega (arith, e))
+none-refuses false false true z = let e : _≡_ {A = ℕ} 11 0 = z in absurd (omega (arith, e))
+none-refuses false false false z = (refl, refl, refl)
 
-  refused-by : {answer : ℕ} → answer ≢ 0 → answer ≡ number (stoneAnswer seen bytes r c) → Tested g bytes r c answer
-  refused-by n e = record { refused = λ k. e; unpaused = λ z. absurd (n z); point = λ z. absurd (n z); more = λ z. absurd (n z) }
+-- ---- What is known before the stone is laid
 
-  pub tested-paused : g .passes ≡ 2 → Tested g bytes r c (number GamePaused)
-  unfolding viewOf number
-  tested-paused e = refused-by (λ z. omega (arith, z)) (ap number (sym (stone-paused seen bytes r c e)))
+module _ (g : Game) (bytes : List ℕ) (r c : ℕ) (is : TrueState g) (room : RoomIn g (length bytes)) where
+  abbrev side : ℕ
+  side = turnOf (g .turn)
 
-  module _ (open′ : g .passes ≢ 2) (answer : ℕ) (its : answer ≡ number (pointAnswer seen bytes (g .flags) r c)) where
-    pub tested-point : answer ≢ 0 → Tested g bytes r c answer
-    unfolding viewOf
-    tested-point n =
-        refused-by n (its ∙ ap number (sym (stone-point seen bytes r c open′ (other-refuses (pointAnswer seen bytes (g .flags) r c) answer its n))))
+  abbrev spot : ℕ
+  spot = index (g .board .width) r c
 
-    module _ (zero′ : answer ≡ 0) where
-      point-ok : accepts (pointAnswer seen bytes (g .flags) r c) ≡ true
-      point-ok = zero-accepts (pointAnswer seen bytes (g .flags) r c) answer its zero′
+  abbrev again? : Bool
+  again? = recorded bytes (g .records) (resulting (viewOf g) spot)
 
-      pub tested-limit : g .accepted ≡ maxStones → Tested g bytes r c (number MoveLimit)
-      unfolding viewOf number
-      tested-limit e = refused-by (λ z. omega (arith, z)) (ap number (sym (stone-limit seen bytes r c open′ point-ok (omega arith))))
-
-      pub tested-passed : TrueState g → g .accepted ≢ maxStones → Tested g bytes r c 0
-      unfolding viewOf
-      tested-passed is n =
-          let most = is .game .limited in
-          record { refused = λ k. absurd (k refl); unpaused = λ z. open′; point = λ z. point-ok; more = λ z. omega arith }
-
--- ---- A stone by the answer of the tests
-
-module _ (g : Game) (bytes : List ℕ) (r c answer : ℕ) (is : TestsDone g bytes r c answer) where
-  pub tests-refuse : answer ≢ 0 → CalledTrue (stone (viewOf g) bytes r c) g bytes answer g bytes
+  refused-by : {answer : ℕ} → answer ≡ number (stoneAnswer (viewOf g) bytes r c) → answer ≢ 0 → CalledTrue (stone (viewOf g) bytes r c) g bytes answer g bytes
   unfolding stone
-  tests-refuse n =
+  refused-by {answer} told n =
       let its = stoneAnswer (viewOf g) bytes r c in
-      let told = is .tested .refused n in
-      true-refused g bytes (is .state) (is .room) its _ _ (other-refuses its answer told n) told
+      true-refused g bytes is room its _ _ (other-refuses its answer told n) told
 
-  module _ (zero′ : answer ≡ 0) where
-    pub no-room-refuses : full bytes (g .records) (coloursOf (g .board)) ≡ true → CalledTrue (stone (viewOf g) bytes r c) g bytes (number HistoryFull) g bytes
-    unfolding viewOf stone accepts number
-    no-room-refuses e =
-        let told = stone-last (viewOf g) bytes r c (is .tested .unpaused zero′) (is .tested .point zero′) (is .tested .more zero′) ∙ refuses HistoryFull e in
-        true-refused g bytes (is .state) (is .room) (stoneAnswer (viewOf g) bytes r c) _ _ (ap accepts told) (ap number (sym told))
+  -- the record of the board that is laid is the one that the rules look for
+  pub left-found :
+      (laid : Laid) {p mover : ℕ} → p ≡ spot → mover ≡ side → LaidOut (g .board) p mover (g .flags) laid → {left : List ℕ}
+      → left ≡ recordOf (coloursOf (laid .board)) → among bytes (g .records) left ≡ again?
+  unfolding viewOf resulting
+  left-found laid here′ mine out its =
+      ap (among bytes (g .records)) its
+      ∙ among-recorded bytes (g .records) (coloursOf (laid .board))
+      ∙ ap (recorded bytes (g .records))
+      (out .colours ∙ (λ i. played (g .board .height) (g .board .width) (g .flags) (coloursOf (g .board)) (mine i) (here′ i)))
 
-    pub tests-allow : full bytes (g .records) (coloursOf (g .board)) ≡ false → Allowed g bytes r c
-    tests-allow e =
-        record { unpaused = is .tested .unpaused zero′; point = is .tested .point zero′; more = is .tested .more zero′; free = e }
+  module _ (t : Told) (told : ToldAt g (g .flags) r c t) (first : ℕ) (its : first ≡ firstAnswer (g .passes) (known t)) where
+    pub first-refuses : first ≢ 0 → CalledTrue (stone (viewOf g) bytes r c) g bytes first g bytes
+    unfolding viewOf firstAnswer
+    first-refuses n =
+        refused-by
+        (⊎-elim
+        (λ e. its ∙ ap (λ (b : Bool). cond b (number GamePaused) (known t)) (eq-eqb (g .passes) 2 e) ∙ ap number (sym (stone-paused (viewOf g) bytes r c e)))
+        (λ open′.
+        let known′ : first ≡ known t = its ∙ ap (λ (b : Bool). cond b (number GamePaused) (known t)) (ne-eqb (g .passes) 2 open′) in
+        let said : first ≡ number (pointAnswer (viewOf g) bytes (g .flags) r c) =
+        known′ ∙ sym (known-settles t (λ z. n (known′ ∙ z)) again?) ∙ told .settles bytes in
+        said ∙ ap number (sym (stone-point (viewOf g) bytes r c open′ (other-refuses (pointAnswer (viewOf g) bytes (g .flags) r c) first said n))))
+        (equal-or-not (g .passes) 2))
+        n
+
+    module _ (zero′ : first ≡ 0) where
+      first-open : g .passes ≢ 2
+      unfolding firstAnswer number
+      first-open e =
+          let four : first ≡ 4 = its ∙ ap (λ (b : Bool). cond b (number GamePaused) (known t)) (eq-eqb (g .passes) 2 e) in
+          omega (arith, four, zero′)
+
+      first-known : known t ≡ 0
+      unfolding firstAnswer
+      first-known = sym (its ∙ ap (λ (b : Bool). cond b (number GamePaused) (known t)) (ne-eqb (g .passes) 2 first-open)) ∙ zero′
+
+      pub laying : {p mover : ℕ} → p ≡ spot → mover ≡ side → Laying (g .board) p mover (g .flags)
+      laying {p} {mover} here′ mine =
+          subst (λ (q : ℕ). Laying (g .board) q mover (g .flags)) (sym here′)
+          (subst (λ (m : ℕ). Laying (g .board) spot m (g .flags)) (sym mine) (told-laying g bytes r c is room t told first-known))
+
+      -- ---- What is known once it is laid
+
+      module _ (again : Bool) (looked : undecided t ≡ true → again ≡ again?) (skipped : undecided t ≡ false → again ≡ false)
+          (no-room : Bool) (full′ : full bytes (g .records) (coloursOf (g .board)) ≡ no-room)
+          (last : ℕ) (says : last ≡ number (lastAnswer again (g .accepted) no-room)) where
+        at-point : number (pointAnswer (viewOf g) bytes (g .flags) r c) ≡ number (refuse SuperKo again)
+        at-point = sym (told .settles bytes) ∙ passed-settles t again again? first-known looked skipped
+
+        at-limit : leb maxStones (g .accepted) ≡ eqb (g .accepted) maxStones
+        unfolding viewOf
+        at-limit =
+            let most : g .accepted ≤ maxStones = is .game .limited in
+            ⊎-elim (λ e. le-leb maxStones (g .accepted) (omega arith) ∙ sym (eq-eqb (g .accepted) maxStones e))
+            (λ n. lt-leb maxStones (g .accepted) (omega arith) ∙ sym (ne-eqb (g .accepted) maxStones n))
+            (equal-or-not (g .accepted) maxStones)
+
+        last-said : last ≡ number (stoneAnswer (viewOf g) bytes r c)
+        unfolding viewOf lastAnswer
+        last-said =
+            says
+            ∙ (λ i. number (refuse SuperKo again then refuse MoveLimit (sym at-limit i) then refuse HistoryFull (sym full′ i)))
+            ∙ sym (then-same (pointAnswer (viewOf g) bytes (g .flags) r c) (refuse SuperKo again) _ at-point)
+            ∙ ap number (sym (unpaused (viewOf g) bytes r c first-open))
+
+        pub last-refuses : last ≢ 0 → CalledTrue (stone (viewOf g) bytes r c) g bytes last g bytes
+        last-refuses n = refused-by last-said n
+
+        pub last-allows : last ≡ 0 → Allowed g bytes r c
+        unfolding viewOf lastAnswer refuse number
+        last-allows z =
+            let (no-again, fewer, roomy) = none-refuses again (eqb (g .accepted) maxStones) no-room (sym says ∙ z) in
+            record {
+              unpaused = first-open;
+              point = accepts-zero (pointAnswer (viewOf g) bytes (g .flags) r c) (at-point ∙ ap (λ (b : Bool). number (refuse SuperKo b)) no-again);
+              more = let most : g .accepted ≤ maxStones = is .game .limited in let apart = eqb-false (g .accepted) maxStones fewer in omega (arith, most, apart);
+              free = full′ ∙ roomy;
+            }
 
 -- ---- A stone that a true state accepts
 
@@ -156,19 +221,6 @@ module _ (g : Game) (bytes : List ℕ) (r c : ℕ) (is : TrueState g) (ok : Allo
   kept : rules.TrueGame (stoneGame (viewOf g) bytes point)
   unfolding viewOf accepts number
   kept = stone-keeps (viewOf g) bytes r c (is .game) (ap accepts accepted)
-
-  pub laying : {p mover : ℕ} → p ≡ point → mover ≡ own → Laying (g .board) p mover (g .flags)
-  unfolding viewOf
-  laying {p} {mover} here′ mine =
-      subst (λ (q : ℕ). Laying (g .board) q mover (g .flags)) (sym here′)
-      (subst (λ (m : ℕ). Laying (g .board) point m (g .flags)) (sym mine)
-      (record {
-        board = is .board;
-        on = accepted-on (viewOf g) bytes r c (g .flags) (ok .point);
-        empty = accepted-empty (viewOf g) bytes r c (g .flags) (ok .point);
-        player = turn-player (g .turn);
-        allowed = accepted-no-suicide (viewOf g) bytes r c (g .flags) (ok .point);
-      }))
 
   module _ (laid : Laid) {p mover : ℕ} (here′ : p ≡ point) (mine : mover ≡ own) (laidOut : LaidOut (g .board) p mover (g .flags) laid) where
     out : LaidOut (g .board) point own (g .flags) laid

@@ -1,4 +1,4 @@
--- The state is damaged, or it is judged true, the tests answer and the stone is put down by their answer.
+-- The state is damaged, or it is judged true and the stone is played.
 use borrow.Author.Tests.{not-true, not-false}
 use Rattle.rules.specs.Answers.{number}
 use Rattle.rules.specs.Laws.Lists.{not-both}
@@ -14,22 +14,16 @@ returns : tie.Need-returns
 unfolding number
 returns c = called-damaged (λ is. not-both (c .before .judge-with .ensures .1 is) (not-true _ (c .if1 .taken)))
 
-tests-answer-requires : tie.Need-tests-answer-requires
-tests-answer-requires c κs = c .before .before .judge-with .ensures .0 (not-false _ (c .before .if1 .left))
-
-put-down-requires : tie.Need-put-down-requires
-put-down-requires c κs =
-    let judged = c .before .before .before in
-    let is = judged .before .judge-with .ensures .0 (not-false _ (judged .if1 .left)) in
-    record { state = is .0; room = is .1; tested = c .before .tests-answer .ensures }
+play-requires : tie.Need-play-requires
+play-requires c κs = c .before .before .judge-with .ensures .0 (not-false _ (c .before .if1 .left))
 
 same-length : tie.Need-same-length
 same-length c = search needs
 
 returns-2 : tie.Need-returns-2
 returns-2 c =
-    let judged = c .before .before .before .before .before .before in
-    called-true (judged .before .judge-with .ensures .0 (not-false _ (judged .if1 .left))) (c .before .before .put-down .ensures)
+    let judged = c .before .before .before .before in
+    called-true (judged .before .judge-with .ensures .0 (not-false _ (judged .if1 .left))) (c .before .before .play .ensures)
 
 pub stone-spec : {M : Type 1} → statement M
-stone-spec = tie.close (tie.spec judge-with-requires returns tests-answer-requires put-down-requires same-length returns-2)
+stone-spec = tie.close (tie.spec judge-with-requires returns play-requires same-length returns-2)
