@@ -9,7 +9,7 @@ use Rattle.rules.specs.Colours.{at}
 use Rattle.rules.specs.Tests as tests
 use Rattle.rules.specs.Records.{recorded}
 use Rattle.rules.specs.Answers.{number}
-use Rattle.rules.specs.Calls.{resulting, forbiddenAnswer, pointAnswer}
+use Rattle.rules.specs.Calls.{resulting, pointAnswer}
 use Rattle.board.specs.Board.{coloursOf}
 use Rattle.game.specs.declared.state.Game.{Game}
 use Rattle.game.specs.View.{turnOf, viewOf, TrueState, RoomIn}
@@ -30,12 +30,8 @@ pub record Repeating (g : Game) (n p : ℕ) : Type 0 where
 
 -- ---- What is told before the stone is laid
 
--- of an empty point: it settles to the answer of the rules by any bytes, and the records decide only where the stone captures
-pub record Tells (g : Game) (flags p : ℕ) (t : Told) : Type 0 where
-  pub settles : (bytes : List ℕ) → settled t (recorded bytes (g .records) (resulting (viewOf g) p)) ≡ number (forbiddenAnswer (viewOf g) bytes flags p)
-  pub captures : undecided t ≡ true → tests.captures (g .board .height) (g .board .width) (coloursOf (g .board)) (turnOf (g .turn)) p ≡ true
-
--- of a row and a column: the same, and the records decide only at an empty point of the board
+-- of a row and a column: it settles to the answer of the rules by any bytes, and the records decide only at an empty point of the board
+-- where the stone captures
 pub record ToldAt (g : Game) (flags r c : ℕ) (t : Told) : Type 0 where
   pub settles :
       (bytes : List ℕ)

@@ -11,6 +11,7 @@ use game::state::Game;
 use game::state::NO_POINT;
 use history::packing::colours_of;
 use legality::look::near_at;
+use legality::near::Near;
 use points::answers::ACCEPTED;
 use points::answers::OFF_BOARD;
 use points::answers::POINT_NOT_EMPTY;
@@ -20,13 +21,13 @@ use points::sizes::MAX_AREA;
 use points::stones::EMPTY;
 ghost use mathlib.Core.Path.{_≡_};
 ghost use lib.ListN.{length};
+ghost use Rattle.rules.specs.Sizes.{maxArea};
 ghost use Rattle.rules.specs.Records.{recorded};
 ghost use Rattle.rules.specs.Answers.{number, refuse, SuperKo};
 ghost use Rattle.rules.specs.Calls.{resulting, pointAnswer};
-ghost use Rattle.board.specs.True.{TrueBoard};
 ghost use Rattle.game.specs.View.{viewOf, TrueState, RoomIn};
-ghost use Rattle.checking.specs.Told.{atKo};
-ghost use Rattle.checking.specs.Asking.{Repeating, Tells, ToldAt};
+ghost use Rattle.checking.specs.Told.{atKo, toldSpot, toldNear};
+ghost use Rattle.checking.specs.Asking.{Repeating};
 
 pub fn is_ko_point(ko: u16, point: usize) -> bool
     ensures { λ r. ⌜ r ≡ atKo ko point ⌝ }
@@ -45,52 +46,66 @@ fn superko_answer(game: Game, history: &[u8], point: usize) -> u8
     ACCEPTED
 }
 
-// What is told of an empty point of the board. Where no eye is asked for, nothing is read but what stands beside the point.
-fn told_there(game: Game, flags: u8, point: usize) -> Told
-    requires { ⌜ TrueBoard (game .board) ⌝ }
-    ensures { λ r. ⌜ Tells game flags point r ⌝ }
+// What is told of a spot by what stands near it, before a stone is laid: the answer, or that the records decide. The colours are read
+// only where the eye test is asked.
+pub fn told_of(
+    spot: Spot,
+    near: Near,
+    colours: &[u8; MAX_AREA],
+    height: u8,
+    width: u8,
+    colour: u8,
+    ko: u16,
+    records: usize,
+    flags: u8,
+) -> Told
+    requires { ⌜ length (now colours) ≡ maxArea ⌝ }
+    ensures { λ r. ⌜ r ≡ toldSpot spot (toldNear flags near (now (colours .entry)) height width colour ko records) ⌝ }
 {
-    let height = game.board.height;
-    let width = game.board.width;
+    match spot {
+        Spot::Off => Told::Answer(OFF_BOARD),
+        Spot::Stone => Told::Answer(POINT_NOT_EMPTY),
+        Spot::Empty(point) => told(
+            near,
+            colours,
+            height,
+            width,
+            point,
+            colour,
+            is_ko_point(ko, point),
+            records,
+            flags,
+        ),
+    }
+}
+
+// The answer of a true state whose history was judged too. Where no eye is asked for, nothing is read but what stands beside the point.
+pub fn point_answer(game: Game, history: &[u8], flags: u8, row: u8, column: u8) -> u8
+    requires { ⌜ TrueState game × RoomIn game (length (now history)) ⌝ }
+    ensures { λ r. ⌜ r ≡ number (pointAnswer (viewOf game) (now (history .entry)) flags row column) ⌝ }
+{
+    let spot = spot_at(game.board, row, column);
+    let point = two_to_1dim(game.board.width, row, column);
+    let near = near_at(game.board, point);
     let mut colours = [EMPTY; MAX_AREA];
     if forbids_eye(flags) {
         let shown = colours_of(game.board);
         colours = shown;
     }
-    told(
-        near_at(game.board, point),
+    let mover = player_of(game.turn);
+    let answer = told_of(
+        spot,
+        near,
         &colours,
-        height,
-        width,
-        point,
-        player_of(game.turn),
-        is_ko_point(game.ko, point),
+        game.board.height,
+        game.board.width,
+        mover,
+        game.ko,
         game.records,
         flags,
-    )
-}
-
-// What is told before a stone is laid: the answer, or that the records decide.
-pub fn told_at(game: Game, flags: u8, row: u8, column: u8) -> Told
-    requires { ⌜ TrueBoard (game .board) ⌝ }
-    ensures { λ r. ⌜ ToldAt game flags row column r ⌝ }
-{
-    let spot = spot_at(game.board, row, column);
-    match spot {
-        Spot::Off => Told::Answer(OFF_BOARD),
-        Spot::Stone => Told::Answer(POINT_NOT_EMPTY),
-        Spot::Empty(point) => told_there(game, flags, point),
-    }
-}
-
-// The answer of a true state whose history was judged too.
-pub fn point_answer(game: Game, history: &[u8], flags: u8, row: u8, column: u8) -> u8
-    requires { ⌜ TrueState game × RoomIn game (length (now history)) ⌝ }
-    ensures { λ r. ⌜ r ≡ number (pointAnswer (viewOf game) (now (history .entry)) flags row column) ⌝ }
-{
-    let answer = told_at(game, flags, row, column);
+    );
     let Told::Answer(number) = answer else {
-        return superko_answer(game, history, two_to_1dim(game.board.width, row, column));
+        return superko_answer(game, history, point);
     };
     number
 }

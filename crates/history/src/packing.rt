@@ -17,7 +17,7 @@ ghost use Rattle.rules.specs.Colours.{at};
 ghost use Rattle.rules.specs.Records.{lowBytes, recordOf};
 ghost use Rattle.board.specs.Board.{coloursOf};
 ghost use Rattle.board.specs.True.{TrueBoard};
-ghost use Rattle.history.specs.Packing.{onLargest, colourPart, Packing};
+ghost use Rattle.history.specs.Packing.{onLargest, colourPart, recordBy, Packing};
 
 // The colours of the points, each read once; what lies beyond the board is empty.
 pub fn colours_of(board: Board) -> [u8; MAX_AREA]
@@ -93,14 +93,22 @@ fn write_colours(bytes: &mut [u8; RECORD_BYTES], colours: &[u8; MAX_AREA])
     }
 }
 
+// The record of a board with this hash and these colours.
+pub fn record_by(hash: u64, colours: &[u8; MAX_AREA]) -> [u8; RECORD_BYTES]
+    requires { ⌜ Packing (now colours) ⌝ }
+    ensures { λ r. ⌜ r ≡ recordBy hash (now (colours .entry)) ⌝ }
+{
+    let mut bytes = [0u8; RECORD_BYTES];
+    write_hash(&mut bytes, hash);
+    write_colours(&mut bytes, colours);
+    bytes
+}
+
 // The record of a true board.
 pub fn record_of(board: Board) -> [u8; RECORD_BYTES]
     requires { ⌜ TrueBoard board ⌝ }
     ensures { λ r. ⌜ r ≡ recordOf (coloursOf board) ⌝ }
 {
     let colours = colours_of(board);
-    let mut bytes = [0u8; RECORD_BYTES];
-    write_hash(&mut bytes, board.hash);
-    write_colours(&mut bytes, &colours);
-    bytes
+    record_by(board.hash, &colours)
 }

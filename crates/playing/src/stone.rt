@@ -3,7 +3,8 @@ use crate::count::held_after;
 use crate::count::ko_number;
 use crate::count::no_room;
 use crate::count::put_after;
-use checking::point::told_at;
+use checking::point::told_of;
+use checking::spot::spot_at;
 use checking::superko::is_undecided;
 use checking::superko::known_answer;
 use game::calls::Answered;
@@ -12,8 +13,11 @@ use game::judge::judge_with;
 use game::state::Game;
 use history::lent::is_recorded;
 use history::lent::note_board;
+use history::packing::colours_of;
+use history::packing::record_by;
 use history::packing::record_of;
 use laying::lay::lay;
+use legality::look::near_at;
 use points::answers::ACCEPTED;
 use points::answers::DAMAGED;
 use points::answers::GAME_PAUSED;
@@ -63,7 +67,22 @@ pub fn play(game: Game, history: &mut [u8], row: u8, column: u8) -> Answered
     requires { ⌜ TrueState game × RoomIn game (length (now history)) ⌝ }
     ensures { λ r. ⌜ CalledTrue (rules.stone (viewOf game) (now (history .entry)) row column) game (now (history .entry)) (r .answer) (r .game) (now (history .exit)) ⌝ }
 {
-    let told = told_at(game, game.flags, row, column);
+    let spot = spot_at(game.board, row, column);
+    let point = two_to_1dim(game.board.width, row, column);
+    let near = near_at(game.board, point);
+    let colours = colours_of(game.board);
+    let mover = player_of(game.turn);
+    let told = told_of(
+        spot,
+        near,
+        &colours,
+        game.board.height,
+        game.board.width,
+        mover,
+        game.ko,
+        game.records,
+        game.flags,
+    );
     let first = first_answer(game.passes, known_answer(told));
     if first != ACCEPTED {
         return Answered {
@@ -71,15 +90,13 @@ pub fn play(game: Game, history: &mut [u8], row: u8, column: u8) -> Answered
             game: game,
         };
     }
-    let mover = player_of(game.turn);
-    let point = two_to_1dim(game.board.width, row, column);
     let laid = lay(game.board, point, mover, game.flags);
     let mut again = false;
     if is_undecided(told) {
         let left = record_of(laid.board);
         again = is_recorded(history, game.records, &left);
     }
-    let bytes = record_of(game.board);
+    let bytes = record_by(game.board.hash, &colours);
     let last = last_answer(again, game.accepted, no_room(history, game.records, &bytes));
     if last != ACCEPTED {
         return Answered {

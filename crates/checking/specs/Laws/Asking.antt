@@ -20,6 +20,8 @@ use Rattle.rules.specs.Laws.Lists.{and-right, not-yes, not-both}
 use Rattle.board.specs.Board.{coloursOf}
 use Rattle.rules.specs.Laws.Answers.{zero-accepts, refused-then, passed-then}
 use Rattle.rules.specs.Laws.Calls.{accepted-on, accepted-empty, accepted-no-suicide}
+use Rattle.board.specs.True.{TrueBoard}
+use Rattle.history.specs.Packing.{onLargest}
 use Rattle.laying.specs.Laying.{Laying}
 use Rattle.legality.specs.declared.near.Near.{Near}
 use Rattle.legality.specs.Near.{nearOf, besides, saves, catchesMore, caught}
@@ -31,10 +33,10 @@ use Rattle.checking.specs.declared.spot.Spot.the-variants.{Off, Stone, E
 use Rattle.checking.specs.declared.superko.Told.{Told}
 use Rattle.checking.specs.declared.superko.Told.the-variants.{Answer, IfRecorded}
 use Rattle.checking.specs.Spot.{spotOf}
-use Rattle.checking.specs.Told.{atKo, toldOf, settled, known, undecided}
-use Rattle.checking.specs.Asking.{Asking, Repeating, Tells, ToldAt}
+use Rattle.checking.specs.Told.{atKo, toldOf, toldNear, toldSpot, settled, known, undecided}
+use Rattle.checking.specs.Asking.{Asking, Repeating, ToldAt}
 use Rattle.checking.specs.Laws.Spot.{Free, off-outside, stone-taken, empty-free, free-on, free-empty}
-use Rattle.checking.specs.Laws.Near.{own-suicide, its-ko, own-captures}
+use Rattle.checking.specs.Laws.Near.{own-suicide, its-ko, own-captures, own-eye}
 use Rattle.checking.specs.Laws.Told.{told-settled, told-eye, told-captures}
 
 -- ---- A capture may be laid
@@ -87,28 +89,6 @@ module _ (g : Game) (bytes : List ℕ) (flags r c : ℕ) (s : Spot) (found : s �
     empty-asking n state room =
         record { state = state; room = room; on = free-on _ _ _ r c p free; empty = free-empty _ _ _ r c p free }
 
--- so it is told
-module _ (g : Game) (flags r c : ℕ) (s : Spot) (found : s ≡ spotOf (g .board .height) (g .board .width) (coloursOf (g .board)) r c) where
-  pub told-off : s ≡ Off → ToldAt g flags r c (Answer 5)
-  told-off e = record { settles = λ bytes. off-answer g bytes flags r c s found e; repeating = λ u. absurd (not-both u refl) }
-
-  pub told-stone : s ≡ Stone → ToldAt g flags r c (Answer 6)
-  told-stone e = record { settles = λ bytes. stone-answer g bytes flags r c s found e; repeating = λ u. absurd (not-both u refl) }
-
-  pub told-empty : (p : ℕ) → s ≡ Empty p → (t : Told) → Tells g flags p t → ToldAt g flags r c t
-  told-empty p e t tells =
-      let here = empty-free _ _ _ r c p (sym found ∙ e) .here in
-      record {
-        settles =
-            λ bytes.
-            ap (λ (q : ℕ). settled t (recorded bytes (g .records) (resulting (viewOf g) q))) (sym here)
-            ∙ tells .settles bytes
-            ∙ empty-answer g bytes flags r c s found p e;
-        repeating =
-            λ u n state room.
-            subst (Repeating g n) here (record { asking = empty-asking g [] flags r c s found p e n state room; captures = tells .captures u });
-      }
-
 -- ---- What the tests tell
 
 -- e is what the eye test says, where it is asked
@@ -141,14 +121,51 @@ module _ (g : Game) (flags p : ℕ) (n : Near) (near : n ≡ nearOf (g .board .h
       ∙ told-settled flags (suicide h w cols (turnOf (g .turn)) p) (ko h w cols (koOf (g .ko)) p) (eye h w cols (turnOf (g .turn)) p)
       (captures h w cols (turnOf (g .turn)) p) (g .records) (recorded bytes (g .records) (resulting (viewOf g) p))
 
-  told-capturing : undecided t ≡ true → captures h w cols (turnOf (g .turn)) p ≡ true
+  pub told-capturing : undecided t ≡ true → captures h w cols (turnOf (g .turn)) p ≡ true
   told-capturing u = told-captures flags _ _ _ _ (g .records) (ap undecided (sym by-rules) ∙ u)
 
   pub told-repeating : (len : ℕ) → Asking g len p → undecided t ≡ true → Repeating g len p
   told-repeating len asking u = record { asking = asking; captures = told-capturing u }
 
-  pub told-tells : Tells g flags p t
-  told-tells = record { settles = told-forbidden; captures = told-capturing }
+-- ---- What is told of a row and a column
+
+-- the colours count where the eye test is asked
+module _ (g : Game) (flags r c : ℕ) (is : TrueBoard (g .board)) (s : Spot) (found : s ≡ spotOf (g .board .height) (g .board .width) (coloursOf (g .board)) r c)
+    (n : Near) (near : n ≡ nearOf (g .board .height) (g .board .width) (coloursOf (g .board)) (index (g .board .width) r c))
+    (cs : List ℕ) (wanted : forbids flags FILLEYE ≡ true → cs ≡ onLargest (coloursOf (g .board))) (own : ℕ) (mover : own ≡ turnOf (g .turn)) where
+  abbrev there : ℕ → Told
+  there = toldNear flags n cs (g .board .height) (g .board .width) own (g .ko) (g .records)
+
+  eyed : (p : ℕ) → forbids flags FILLEYE ≡ true
+      → eye (g .board .height) (g .board .width) cs own p ≡ eye (g .board .height) (g .board .width) (coloursOf (g .board)) (turnOf (g .turn)) p
+  eyed p f = own-eye g p is cs (wanted f) own mover
+
+  told-empty : (p : ℕ) → s ≡ Empty p → ToldAt g flags r c (there p)
+  unfolding toldNear
+  told-empty p e =
+      let here = empty-free _ _ _ r c p (sym found ∙ e) .here in
+      let near′ = near ∙ ap (nearOf (g .board .height) (g .board .width) (coloursOf (g .board))) (sym here) in
+      let t = there p in
+      record {
+        settles =
+            λ bytes.
+            ap (λ (q : ℕ). settled t (recorded bytes (g .records) (resulting (viewOf g) q))) (sym here)
+            ∙ told-forbidden g flags p n near′ own mover _ refl _ (eyed p) t refl bytes
+            ∙ empty-answer g bytes flags r c s found p e;
+        repeating =
+            λ u len state room.
+            subst (Repeating g len) here
+            (told-repeating g flags p n near′ own mover _ refl _ (eyed p) t refl len (empty-asking g [] flags r c s found p e len state room) u);
+      }
+
+  told-spot : (x : Spot) → s ≡ x → ToldAt g flags r c (toldSpot x there)
+  unfolding number
+  told-spot Off e = record { settles = λ bytes. off-answer g bytes flags r c s found e; repeating = λ u. absurd (not-both u refl) }
+  told-spot Stone e = record { settles = λ bytes. stone-answer g bytes flags r c s found e; repeating = λ u. absurd (not-both u refl) }
+  told-spot (Empty p) e = told-empty p e
+
+  pub told-at : (t : Told) → t ≡ toldSpot s there → ToldAt g flags r c t
+  told-at t told = subst (ToldAt g flags r c) (sym told) (told-spot s refl)
 
 -- ---- What passes so far may be laid
 

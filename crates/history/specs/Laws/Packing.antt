@@ -21,7 +21,7 @@ use Rattle.board.specs.declared.goban.Board.{Board}
 use Rattle.board.specs.Board.{owner, chainIn, colourAt, coloursOf}
 use Rattle.board.specs.True.{Shaped, ExactTable}
 use Rattle.board.specs.Laws.Board.{area-fits, length-colours, at-colours, empty-unowned, owned-player}
-use Rattle.history.specs.Packing.{onLargest, colourPart, Packing}
+use Rattle.history.specs.Packing.{onLargest, colourPart, recordBy, Packing}
 
 -- ---- A colour, read through owner and chain
 
@@ -88,6 +88,16 @@ assembled first second long bytes e =
     ap₂ (λ (a z : List ℕ). a ++ (second ++ z)) (ap (take hashBytes) e ∙ take-at first rest hashBytes long)
     (sym (drop-drop colourBytes hashBytes bytes) ∙ ap (drop colourBytes) (ap (drop hashBytes) e ∙ drop-at first rest hashBytes long))
 
+-- hash and colours, written over zeros
+module _ (hash : ℕ) (bytes : List ℕ) (e : bytes ≡ lowBytes hashBytes hash ++ drop hashBytes (replicate recordBytes 0)) where
+  pub record-made : (cols : List ℕ) → take hashBytes bytes ++ (colourPart cols ++ drop (hashBytes + colourBytes) bytes) ≡ recordBy hash cols
+  unfolding lowBytes recordBy
+  record-made cols = assembled (lowBytes hashBytes hash) (colourPart cols) (length-tabulate (λ i. hash / 256 ^ i % 256) 0 hashBytes) bytes e
+
+  pub record-long : length bytes ≡ recordBytes
+  unfolding lowBytes
+  record-long = ap length e
+
 -- ---- The record of a true board
 
 module _ (b : Board) (is : ExactTable b) where
@@ -104,15 +114,6 @@ module _ (b : Board) (is : ExactTable b) where
   pub packing : Packing (onLargest (coloursOf b))
   packing = record { long = length-onLargest (coloursOf b); small = λ p. rw (at-onLargest (coloursOf b) fits p) (small p) }
 
-  -- hash and colours, written over zeros
-  pub record-made : (bytes : List ℕ) → bytes ≡ lowBytes hashBytes (b .hash) ++ drop hashBytes (replicate recordBytes 0)
-      → take hashBytes bytes ++ (colourPart (onLargest (coloursOf b)) ++ drop (hashBytes + colourBytes) bytes) ≡ recordOf (coloursOf b)
-  unfolding lowBytes colourPart recordOf
-  record-made bytes e =
-      assembled (lowBytes hashBytes (b .hash)) (colourPart (onLargest (coloursOf b)))
-      (length-tabulate (λ i. b .hash / 256 ^ i % 256) 0 hashBytes) bytes e
-      ∙ ap₂ (λ (x : ℕ) (part : List ℕ). lowBytes hashBytes x ++ (part ++ (0 ∷ []))) (is .hashed) (part-onLargest (coloursOf b) fits)
-
-  pub record-long : (bytes : List ℕ) → bytes ≡ lowBytes hashBytes (b .hash) ++ drop hashBytes (replicate recordBytes 0) → length bytes ≡ recordBytes
-  unfolding lowBytes
-  record-long bytes e = ap length e
+  pub record-board : recordBy (b .hash) (onLargest (coloursOf b)) ≡ recordOf (coloursOf b)
+  unfolding recordBy colourPart recordOf
+  record-board = ap₂ (λ (x : ℕ) (part : List ℕ). lowBytes hashBytes x ++ (part ++ (0 ∷ []))) (is .hashed) (part-onLargest (coloursOf b) fits)

@@ -6,15 +6,20 @@ use native.Mathlib.Omega.{arith}
 use lib.ListN.{length}
 use borrow.Author.Needs.{needs}
 use Rattle.rules.specs.Points.{index}
-use Rattle.rules.specs.Records.{capacity, recorded, full}
+use Rattle.rules.specs.Records.{recordOf, capacity, recorded, full}
 use Rattle.rules.specs.Calls.{resulting}
 use Rattle.rules.specs.Game.{Player}
 use Rattle.rules.specs.Laws.Lists.{not-both}
 use Rattle.rules.specs.Laws.Records.{length-record}
 use Rattle.board.specs.Board.{coloursOf}
+use Rattle.history.specs.Packing.{onLargest, recordBy}
+use Rattle.history.specs.Laws.Packing.{length-onLargest, packing, record-board}
+use Rattle.legality.specs.Near.{nearOf}
 use Rattle.game.specs.View.{viewOf, RoomIn}
 use Rattle.game.specs.Laws.View.{turn-player}
 use Rattle.checking.specs.Told.{known, undecided}
+use Rattle.checking.specs.Asking.{ToldAt}
+use Rattle.checking.specs.Laws.Asking.{told-at}
 use Rattle.playing.specs.Promise.{firstAnswer}
 use Rattle.playing.specs.After.{stoned}
 use Rattle.playing.specs.Laws.Count.{true-few, full-by}
@@ -26,28 +31,62 @@ use Rattle.playing.proofs.stone.play.Tie as tie
 abbrev granted : tie.After-other → tie.Else3
 granted c = c .before .before .before .before .before .before
 
-abbrev noted : tie.After-no-room → tie.After-record-of2
+abbrev noted : tie.After-no-room → tie.After-record-by
 noted c = c .before .before .before
 
-abbrev lain : tie.After-no-room → tie.After-lay
-lain c = noted c .before .before .before
+abbrev lain : tie.After-record-by → tie.After-lay
+lain c = c .before .before .before .before
 
-abbrev passed : tie.After-lay → tie.Else1
-passed c = c .before .before .before
+abbrev toldBy : tie.After-first-answer → tie.After-told-of
+toldBy c = c .before .before
 
-abbrev begin : tie.After-first-answer → tie.Start
-begin c = c .before .before .before .before
+abbrev mover : tie.After-told-of → tie.After-player-of
+mover c = c .before .before
+
+abbrev looked : tie.After-told-of → tie.After-near-at
+looked c = mover c .before .before
+
+abbrev begin : tie.After-told-of → tie.Start
+begin c = looked c .before .before .before .before
+
+abbrev asked : tie.After-lay → tie.After-told-of
+asked c = toldBy (c .before .before)
 
 abbrev start : tie.After-lay → tie.Start
-start c = begin (passed c .before)
+start c = begin (asked c)
 
 -- ---- The first tests
 
-first : (c : tie.After-first-answer) → c .first-answer .result ≡ firstAnswer (begin c .args .game .passes) (known (c .before .before .told-at .result))
-first c = c .first-answer .ensures ∙ ap (firstAnswer (begin c .args .game .passes)) (c .before .known-answer .ensures)
+told : (c : tie.After-told-of) → let a = begin c .args in ToldAt (a .game) (a .game .flags) (a .row) (a .column) (c .told-of .result)
+told c =
+    let s = begin c in
+    let a = s .args in
+    let board = a .game .board in
+    let seen = looked c in
+    told-at (a .game) (a .game .flags) (a .row) (a .column) (s .pre .0 .board) _ (seen .before .before .spot-at .ensures)
+    _ (seen .near-at .ensures ∙ ap (nearOf (board .height) (board .width) (coloursOf board)) (seen .before .two-to-1dim .ensures))
+    _ (λ _. mover c .before .colours-of .ensures) _ (mover c .player-of .ensures) _ (c .told-of .ensures)
 
-told-at-requires : tie.Need-told-at-requires
-told-at-requires c κs = c .before .pre .0 .board
+first : (c : tie.After-first-answer) → c .first-answer .result ≡ firstAnswer (begin (toldBy c) .args .game .passes) (known (toldBy c .told-of .result))
+first c = c .first-answer .ensures ∙ ap (firstAnswer (begin (toldBy c) .args .game .passes)) (c .before .known-answer .ensures)
+
+spot-at-requires : tie.Need-spot-at-requires
+spot-at-requires c κs = c .before .pre .0 .board
+
+two-to-1dim-requires : tie.Need-two-to-1dim-requires
+two-to-1dim-requires c κs = search needs
+
+near-at-requires : tie.Need-near-at-requires
+near-at-requires c κs = c .before .before .before .pre .0 .board
+
+colours-of-requires : tie.Need-colours-of-requires
+colours-of-requires c κs = search needs
+
+player-of-requires : tie.Need-player-of-requires
+player-of-requires c κs = search needs
+
+told-of-requires : tie.Need-told-of-requires
+told-of-requires c κs = ap length (c .before .before .colours-of .ensures) ∙ length-onLargest _
 
 known-answer-requires : tie.Need-known-answer-requires
 known-answer-requires c κs = search needs
@@ -58,25 +97,20 @@ first-answer-requires c κs = search needs
 returns : tie.Need-returns
 returns c =
     let f = c .before in
-    let s = begin f in
-    first-refuses (s .args .game) (s .args .history .now) (s .args .row) (s .args .column) (s .pre .0) (s .pre .1) (f .before .before .told-at .result)
-    (f .before .before .told-at .ensures) (f .first-answer .result) (first f) (c .if1 .taken)
+    let t = toldBy f in
+    let s = begin t in
+    first-refuses (s .args .game) (s .args .history .now) (s .args .row) (s .args .column) (s .pre .0) (s .pre .1) (t .told-of .result) (told t)
+    (f .first-answer .result) (first f) (c .if1 .taken)
 
 -- ---- The stone is laid
 
-player-of-requires : tie.Need-player-of-requires
-player-of-requires c κs = search needs
-
-two-to-1dim-requires : tie.Need-two-to-1dim-requires
-two-to-1dim-requires c κs = search needs
-
 lay-requires : tie.Need-lay-requires
 lay-requires c κs =
-    let e = c .before .before in
-    let f = e .before in
-    let s = begin f in
-    laying (s .args .game) (s .args .history .now) (s .args .row) (s .args .column) (s .pre .0) (s .pre .1) (f .before .before .told-at .result)
-    (f .before .before .told-at .ensures) (f .first-answer .result) (first f) (e .if1 .left) (c .two-to-1dim .ensures) (c .before .player-of .ensures)
+    let f = c .before in
+    let t = toldBy f in
+    let s = begin t in
+    laying (s .args .game) (s .args .history .now) (s .args .row) (s .args .column) (s .pre .0) (s .pre .1) (t .told-of .result) (told t)
+    (f .first-answer .result) (first f) (c .if1 .left) (looked t .before .two-to-1dim .ensures) (mover t .player-of .ensures)
 
 is-undecided-requires : tie.Need-is-undecided-requires
 is-undecided-requires c κs = search needs
@@ -91,47 +125,60 @@ is-recorded-requires c κs =
     record { within = start (written .before .before .before) .pre .1; long = ap length (written .record-of .ensures) ∙ length-record _ }
 
 -- the board that it leaves is looked for where the records decide
-looked : (c : tie.Joined2)
+found : (c : tie.Joined2)
     → let laid = c .before .before in
     let a = start laid .args in
-    let t = passed laid .before .before .before .told-at .result in
+    let t = asked laid .told-of .result in
     (undecided t ≡ true → c .if2 .again ≡ recorded (a .history .now) (a .game .records) (resulting (viewOf (a .game)) (index (a .game .board .width) (a .row) (a .column))))
     × (undecided t ≡ false → c .if2 .again ≡ false)
-looked c =
-    let asked = c .before .is-undecided .ensures in
+found c =
+    let said = c .before .is-undecided .ensures in
     let laid = c .before .before in
-    let s = start laid in
+    let t = asked laid in
+    let s = begin t in
     ⊎-elim
     (λ w. (
       λ _.
           w .5
           ∙ w .4 .ensures
           ∙ left-found (s .args .game) (s .args .history .now) (s .args .row) (s .args .column) (s .pre .0) (s .pre .1) (laid .lay .result)
-          (laid .before .two-to-1dim .ensures) (laid .before .before .player-of .ensures) (laid .lay .ensures) (w .1 .ensures),
-      λ n. absurd (not-both (sym asked ∙ w .0 .taken) n),
+          (looked t .before .two-to-1dim .ensures) (mover t .player-of .ensures) (laid .lay .ensures) (w .1 .ensures),
+      λ n. absurd (not-both (sym said ∙ w .0 .taken) n),
     ))
-    (λ w. (λ y. absurd (not-both y (sym asked ∙ w .0 .left)), λ _. w .1))
+    (λ w. (λ y. absurd (not-both y (sym said ∙ w .0 .left)), λ _. w .1))
     (c .if2 .came)
 
 -- ---- The last tests
 
-record-of-requires-2 : tie.Need-record-of-requires-2
-record-of-requires-2 c κs = start (c .before .before) .pre .0 .board
+record-by-requires : tie.Need-record-by-requires
+record-by-requires c κs =
+    let t = asked (c .before .before .before) in
+    let s = begin t in
+    rw (mover t .before .colours-of .ensures) (packing (s .args .game .board) (s .pre .0 .board .table))
+
+-- the record of the present board, by the colours that were read
+its-record : (c : tie.After-record-by) → c .record-by .result ≡ recordOf (coloursOf (start (lain c) .args .game .board))
+its-record c =
+    let t = asked (lain c) in
+    let s = begin t in
+    c .record-by .ensures
+    ∙ ap (recordBy (s .args .game .board .hash)) (mover t .before .colours-of .ensures)
+    ∙ record-board (s .args .game .board) (s .pre .0 .board .table)
 
 no-room-requires : tie.Need-no-room-requires
 unfolding RoomIn capacity
 no-room-requires c κs =
     let written = c .before .before in
-    let s = start (written .before .before .before) in
-    record { within = s .pre .1; long = ap length (written .record-of2 .ensures) ∙ length-record (coloursOf (s .args .game .board)) }
+    let s = start (lain written) in
+    record { within = s .pre .1; long = ap length (its-record written) ∙ length-record (coloursOf (s .args .game .board)) }
 
 -- the test for room is the rules'
 room-told :
     (c : tie.After-no-room) →
-    let a = start (lain c) .args in full (a .history .now) (a .game .records) (coloursOf (a .game .board)) ≡ c .no-room .result
+    let a = start (lain (noted c)) .args in full (a .history .now) (a .game .records) (coloursOf (a .game .board)) ≡ c .no-room .result
 room-told c =
-    let a = start (lain c) .args in
-    sym (c .no-room .ensures ∙ full-by (a .history .now) (a .game .records) (noted c .record-of2 .result) (coloursOf (a .game .board)) (noted c .record-of2 .ensures))
+    let a = start (lain (noted c)) .args in
+    sym (c .no-room .ensures ∙ full-by (a .history .now) (a .game .records) (noted c .record-by .result) (coloursOf (a .game .board)) (its-record (noted c)))
 
 last-answer-requires : tie.Need-last-answer-requires
 last-answer-requires c κs = search needs
@@ -142,23 +189,25 @@ same-length c = search needs
 returns-2 : tie.Need-returns-2
 returns-2 c =
     let room = c .before .before in
-    let joined = noted room .before in
-    let e = passed (lain room) in
+    let joined = noted room .before .before in
+    let e = lain (noted room) .before in
     let f = e .before in
-    let s = begin f in
-    last-refuses (s .args .game) (s .args .history .now) (s .args .row) (s .args .column) (s .pre .0) (s .pre .1) (f .before .before .told-at .result)
-    (f .before .before .told-at .ensures) (f .first-answer .result) (first f) (e .if1 .left) (joined .if2 .again) (looked joined .0) (looked joined .1)
+    let t = toldBy f in
+    let s = begin t in
+    last-refuses (s .args .game) (s .args .history .now) (s .args .row) (s .args .column) (s .pre .0) (s .pre .1) (t .told-of .result) (told t)
+    (f .first-answer .result) (first f) (e .if1 .left) (joined .if2 .again) (found joined .0) (found joined .1)
     (room .no-room .result) (room-told room) (c .before .last-answer .result) (c .before .last-answer .ensures) (c .if3 .taken)
 
-allowed : (c : tie.Else3) → let a = start (lain (c .before .before)) .args in Allowed (a .game) (a .history .now) (a .row) (a .column)
+allowed : (c : tie.Else3) → let a = start (lain (noted (c .before .before))) .args in Allowed (a .game) (a .history .now) (a .row) (a .column)
 allowed c =
     let room = c .before .before in
-    let joined = noted room .before in
-    let e = passed (lain room) in
+    let joined = noted room .before .before in
+    let e = lain (noted room) .before in
     let f = e .before in
-    let s = begin f in
-    last-allows (s .args .game) (s .args .history .now) (s .args .row) (s .args .column) (s .pre .0) (s .pre .1) (f .before .before .told-at .result)
-    (f .before .before .told-at .ensures) (f .first-answer .result) (first f) (e .if1 .left) (joined .if2 .again) (looked joined .0) (looked joined .1)
+    let t = toldBy f in
+    let s = begin t in
+    last-allows (s .args .game) (s .args .history .now) (s .args .row) (s .args .column) (s .pre .0) (s .pre .1) (t .told-of .result) (told t)
+    (f .first-answer .result) (first f) (e .if1 .left) (joined .if2 .again) (found joined .0) (found joined .1)
     (room .no-room .result) (room-told room) (c .before .last-answer .result) (c .before .last-answer .ensures) (c .if3 .left)
 
 -- ---- The stone is stored
@@ -167,14 +216,9 @@ note-board-requires : tie.Need-note-board-requires
 unfolding RoomIn capacity
 note-board-requires c κs =
     let e = c .before .before in
-    let room = e .before .before in
-    let s = start (lain room) in
-    record {
-      within = s .pre .1;
-      colours = coloursOf (s .args .game .board);
-      its = noted room .record-of2 .ensures;
-      free = allowed e .free;
-    }
+    let written = noted (e .before .before) in
+    let s = start (lain written) in
+    record { within = s .pre .1; colours = coloursOf (s .args .game .board); its = its-record written; free = allowed e .free }
 
 other-requires : tie.Need-other-requires
 other-requires c κs = search needs
@@ -182,24 +226,24 @@ other-requires c κs = search needs
 ko-number-requires : tie.Need-ko-number-requires
 ko-number-requires c κs =
     let e = granted c in
-    let laid = lain (e .before .before) in
-    ko-within _ _ _ _ (start laid .pre .0) (allowed e) (laid .lay .result) (laid .before .two-to-1dim .ensures) (laid .before .before .player-of .ensures)
-    (laid .lay .ensures)
+    let laid = lain (noted (e .before .before)) in
+    let t = asked laid in
+    ko-within _ _ _ _ (begin t .pre .0) (allowed e) (laid .lay .result) (looked t .before .two-to-1dim .ensures) (mover t .player-of .ensures) (laid .lay .ensures)
 
 held-after-requires : tie.Need-held-after-requires
 held-after-requires c κs =
     let e = granted (c .before .before) in
-    true-few _ (start (lain (e .before .before)) .pre .0) .0
+    true-few _ (start (lain (noted (e .before .before))) .pre .0) .0
 
 put-after-requires : tie.Need-put-after-requires
 put-after-requires c κs =
     let e = granted (c .before .before .before .before) in
-    let laid = lain (e .before .before) in
-    let s = start laid in
-    (true-few _ (s .pre .0) .1, subst Player (sym (laid .before .before .player-of .ensures)) (turn-player (s .args .game .turn)))
+    let t = asked (lain (noted (e .before .before))) in
+    let s = begin t in
+    (true-few _ (s .pre .0) .1, subst Player (sym (mover t .player-of .ensures)) (turn-player (s .args .game .turn)))
 
-add-t38 : tie.Need-add-t38
-add-t38 c =
+add-t44 : tie.Need-add-t44
+add-t44 c =
     let few = allowed (granted (c .before .before .before .before .before .before .before)) .more in
     record { fits = omega arith }
 
@@ -215,29 +259,33 @@ returns-3 c =
     let next = ko .before in
     let written = next .before .before .before in
     let e = granted next in
-    let room = e .before .before in
-    let laid = lain room in
-    let s = start laid in
-    play-accepted _ _ _ _ (s .pre .0) (allowed e) (laid .lay .result) (laid .before .two-to-1dim .ensures) (laid .before .before .player-of .ensures)
+    let by = noted (e .before .before) in
+    let laid = lain by in
+    let t = asked laid in
+    let s = begin t in
+    play-accepted _ _ _ _ (s .pre .0) (allowed e) (laid .lay .result) (looked t .before .two-to-1dim .ensures) (mover t .player-of .ensures)
     (laid .lay .ensures) (next .other .result) (next .other .ensures) (ko .ko-number .result) (ko .ko-number .ensures) (held .held-after .result)
     (held .held-after .ensures) (put .put-after .result) (put .put-after .ensures) (written .note-board .result) (written .note-board .last .0)
-    (written .note-board .ensures (coloursOf (s .args .game .board)) (noted room .record-of2 .ensures)) (s .pre .1)
+    (written .note-board .ensures (coloursOf (s .args .game .board)) (its-record by)) (s .pre .1)
 
 pub play-spec : {M : Type 1} → statement M
 play-spec =
     tie.close
     (tie.spec
-    told-at-requires
+    spot-at-requires
+    two-to-1dim-requires
+    near-at-requires
+    colours-of-requires
+    player-of-requires
+    told-of-requires
     known-answer-requires
     first-answer-requires
     returns
-    player-of-requires
-    two-to-1dim-requires
     lay-requires
     is-undecided-requires
     record-of-requires
     is-recorded-requires
-    record-of-requires-2
+    record-by-requires
     no-room-requires
     last-answer-requires
     same-length
@@ -247,6 +295,6 @@ play-spec =
     ko-number-requires
     held-after-requires
     put-after-requires
-    add-t38
+    add-t44
     same-length-2
     returns-3)
