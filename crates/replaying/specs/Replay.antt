@@ -3,11 +3,13 @@
 use mathlib.Core.Path.{_≡_}
 use mathlib.Core.List.{List, map}
 use Prim.Native.Nat.{ℕ}
+use lib.ListN.{length}
 use Rattle.rules.specs.Answers.{Damaged, number}
 use Rattle.rules.specs.Calls as rules
 use Rattle.rules.specs.Calls.{Entry}
 use Rattle.game.specs.declared.state.Game.{Game}
-use Rattle.game.specs.View.{viewOf, TrueState}
+use Rattle.game.specs.View.{viewOf, TrueState, RoomIn}
+use Rattle.playing.specs.Promise.{CalledTrue}
 use Rattle.replaying.specs.declared.replay.Move.{Move}
 use Rattle.replaying.specs.declared.replay.Replayed.{Replayed}
 
@@ -20,6 +22,10 @@ entryOf m = entry (m .kind) (m .row) (m .column)
 
 unfoldable pub entriesOf : List Move → List Entry
 entriesOf moves = map entryOf moves
+
+-- an entry that needs no history: with any that has room, and at any row and column, what the rules say of it, and the bytes as they are
+pub record EntersAlone (g : Game) (kind answer : ℕ) (g′ : Game) : Type 0 where
+  pub entered : (bytes : List ℕ) (row column : ℕ) → RoomIn g (length bytes) → CalledTrue (rules.entryCall (viewOf g) bytes (entry kind row column)) g bytes answer g′ bytes
 
 -- `is` is what makes the state and the history true; `said` what the rules' replay gives
 pub record Replays (is : Type 0) (said : rules.Replayed) (g : Game) (bytes : List ℕ) (r : Replayed) (bytes′ : List ℕ) : Type 0 where

@@ -1,27 +1,21 @@
-// One entry of a replay, in a state that is true already: its kind names the call.
+// One entry of a replay that puts no stone, in a state that is true already: its kind names the call.
 use game::calls::Answered;
 use game::calls::pass_true;
 use game::calls::resign_true;
 use game::calls::resume_true;
 use game::state::Game;
-use playing::stone::play;
 use points::answers::BAD_KIND;
 use points::stones::BLACK;
 use points::stones::WHITE;
-ghost use lib.ListN.{length};
-ghost use Rattle.game.specs.View.{viewOf, TrueState, RoomIn};
-ghost use Rattle.rules.specs.Calls as rules;
-ghost use Rattle.playing.specs.Promise.{CalledTrue};
-ghost use Rattle.replaying.specs.Replay.{entry};
+ghost use mathlib.Core.Logic.{_≢_};
+ghost use Rattle.game.specs.View.{TrueState};
+ghost use Rattle.replaying.specs.Replay.{EntersAlone};
 
-// Kinds: 0 stone, 1 pass, 2 and 3 a resignation naming Black or White, 4 resume. Any other is refused before all else.
-pub fn enter(game: Game, history: &mut [u8], kind: u8, row: u8, column: u8) -> Answered
-    requires { ⌜ TrueState game × RoomIn game (length (now history)) ⌝ }
-    ensures { λ r. ⌜ CalledTrue (rules.entryCall (viewOf game) (now (history .entry)) (entry kind row column)) game (now (history .entry)) (r .answer) (r .game) (now (history .exit)) ⌝ }
+// Kinds: 1 pass, 2 and 3 a resignation naming Black or White, 4 resume. Any other is refused before all else; 0 is a stone, which needs the history.
+pub fn enter(game: Game, kind: u8) -> Answered
+    requires { ⌜ TrueState game × (kind ≢ 0) ⌝ }
+    ensures { λ r. ⌜ EntersAlone game kind (r .answer) (r .game) ⌝ }
 {
-    if kind == 0 {
-        return play(game, history, row, column);
-    }
     if kind == 1 {
         return pass_true(game);
     }

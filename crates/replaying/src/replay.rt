@@ -3,6 +3,7 @@ use crate::entry::enter;
 use game::calls::Answered;
 use game::judge::judge_with;
 use game::state::Game;
+use playing::stone::play;
 use points::answers::ACCEPTED;
 use points::answers::DAMAGED;
 ghost use lib.ListN.{length};
@@ -28,29 +29,30 @@ pub struct Replayed {
     pub game: Game,
 }
 
-// The state is judged once: each accepted entry leaves a true one. The loop copies no game: each call reads it where the last one put it.
+// The state is judged once: each accepted entry leaves a true one. The loop copies no game: each call reads it where the last one put it, a stone's with no call between, and
+// one exit gives it back.
 pub fn replay(game: Game, history: &mut [u8], moves: &[Move]) -> Replayed
     ensures { λ r. ⌜ Replays (TrueState game × RoomIn game (length (now (history .entry)))) (rules.replay (viewOf game) (now (history .entry)) (entriesOf (now (moves .entry)))) game (now (history .entry)) r (now (history .exit)) ⌝ }
 {
-    if !judge_with(game, history.len()) {
-        return Replayed {
-            entries: 0,
-            answer: DAMAGED,
-            game: game,
-        };
-    }
     let mut now = Answered {
-        answer: ACCEPTED,
+        answer: DAMAGED,
         game: game,
     };
     let mut at = 0;
-    while at < moves.len() {
-        let entry = moves[at];
-        now = enter(now.game, history, entry.kind, entry.row, entry.column);
-        if now.answer != ACCEPTED {
-            break;
+    if judge_with(game, history.len()) {
+        now.answer = ACCEPTED;
+        while at < moves.len() {
+            let entry = moves[at];
+            if entry.kind == 0 {
+                now = play(now.game, history, entry.row, entry.column);
+            } else {
+                now = enter(now.game, entry.kind);
+            }
+            if now.answer != ACCEPTED {
+                break;
+            }
+            at += 1;
         }
-        at += 1;
     }
     Replayed {
         entries: at,

@@ -17,7 +17,7 @@ use Rattle.game.specs.declared.state.Game.{Game}
 use Rattle.game.specs.View.{viewOf, TrueState, RoomIn}
 use Rattle.game.specs.Promise.{CalledAlone}
 use Rattle.playing.specs.Promise.{CalledTrue}
-use Rattle.replaying.specs.Replay.{entry}
+use Rattle.replaying.specs.Replay.{entry, EntersAlone}
 
 -- ---- The kind names the call
 
@@ -57,38 +57,15 @@ module _ (v : rules.Game) (bytes : List ℕ) (kind row column : ℕ) where
   unfolding entryCall
   entry-unknown n₀ n₁ n₂ n₃ n₄ = rw (ne-eqb kind 0 n₀, ne-eqb kind 1 n₁, ne-eqb kind 2 n₂, ne-eqb kind 3 n₃, ne-eqb kind 4 n₄)
 
--- ---- A call that needs no history
-
+-- accepted or not, the same
 both-same : {A : Type 0} (t : Bool) (x : A) → x ≡ cond t x x
 both-same true x = refl
 both-same false x = refl
 
-module _ (g : Game) (bytes : List ℕ) (is : TrueState g × RoomIn g (length bytes)) where
-  module _ (a : Answer) (new : rules.Game) (same : new .records ≡ g .records) where
-    -- accepted or not, as many records
-    records-same : (g′ : Game) → viewOf g′ ≡ result a (viewOf g) [] new [] .game → g′ .records ≡ g .records
-    unfolding result viewOf
-    records-same g′ e =
-        ap (λ (v : rules.Game). v .records) e
-        ∙ ⊎-elim (λ (y : accepts a ≡ true). rw y same) (λ (n : accepts a ≡ false). rw n) (decided (accepts a))
+-- ---- The promise of the call that the kind names
 
-    alone-true :
-        {answer : ℕ} {g′ : Game} → CalledAlone (result a (viewOf g) [] new []) g answer g′ → CalledTrue (result a (viewOf g) bytes new bytes) g bytes answer g′ bytes
-    unfolding result RoomIn
-    alone-true {g′} c =
-        record {
-          answered = c .answered (is .0);
-          shown = c .shown (is .0);
-          lent = both-same (accepts a) bytes;
-          kept = c .kept (is .0);
-          long = refl;
-          room = subst (λ (n : ℕ). n ≤ length bytes / recordBytes) (sym (records-same g′ (c .shown (is .0)))) (is .1);
-          refused = λ n. (c .refused n, refl);
-        }
-
-  -- ---- The call that the kind names
-
-  module _ (kind row column : ℕ) where
+module _ (g : Game) (kind : ℕ) where
+  module _ (bytes : List ℕ) (row column : ℕ) where
     abbrev Enters : ℕ → Game → List ℕ → Type 0
     Enters = CalledTrue (called (viewOf g) bytes kind row column) g bytes
 
@@ -102,26 +79,55 @@ module _ (g : Game) (bytes : List ℕ) (is : TrueState g × RoomIn g (length byt
         {answer : ℕ} {g′ : Game} {bytes′ : List ℕ} → kind ≡ 0 → CalledTrue (stone (viewOf g) bytes row column) g bytes answer g′ bytes′ → Enters answer g′ bytes′
     enters-stone e = by-kind (entry-stone (viewOf g) bytes kind row column e)
 
-    pub enters-pass : {answer : ℕ} {g′ : Game} → kind ≡ 1 → CalledAlone (pass (viewOf g) []) g answer g′ → Enters answer g′ bytes
+  module _ (is : TrueState g) where
+    module _ (a : Answer) (new : rules.Game) (same : new .records ≡ g .records) where
+      -- accepted or not, as many records
+      records-same : (g′ : Game) → viewOf g′ ≡ result a (viewOf g) [] new [] .game → g′ .records ≡ g .records
+      unfolding result viewOf
+      records-same g′ e =
+          ap (λ (v : rules.Game). v .records) e
+          ∙ ⊎-elim (λ (y : accepts a ≡ true). rw y same) (λ (n : accepts a ≡ false). rw n) (decided (accepts a))
+
+      -- a call that needs no history, with any that has room
+      enters-alone :
+          ((bytes : List ℕ) (row column : ℕ) → called (viewOf g) bytes kind row column ≡ result a (viewOf g) bytes new bytes) →
+          {answer : ℕ} {g′ : Game} → CalledAlone (result a (viewOf g) [] new []) g answer g′ → EntersAlone g kind answer g′
+      unfolding result RoomIn
+      enters-alone e {g′} c =
+          record {
+            entered = λ bytes row column room. by-kind bytes row column (e bytes row column) (record {
+              answered = c .answered is;
+              shown = c .shown is;
+              lent = both-same (accepts a) bytes;
+              kept = c .kept is;
+              long = refl;
+              room = subst (λ (n : ℕ). n ≤ length bytes / recordBytes) (sym (records-same g′ (c .shown is))) room;
+              refused = λ n. (c .refused n, refl);
+            });
+          }
+
+    pub enters-pass : {answer : ℕ} {g′ : Game} → kind ≡ 1 → CalledAlone (pass (viewOf g) []) g answer g′ → EntersAlone g kind answer g′
     unfolding pass passGame viewOf
-    enters-pass e c = by-kind (entry-pass (viewOf g) bytes kind row column e) (alone-true (pauseAnswer (viewOf g)) (passGame (viewOf g)) refl c)
+    enters-pass e = enters-alone (pauseAnswer (viewOf g)) (passGame (viewOf g)) refl (λ bytes row column. entry-pass (viewOf g) bytes kind row column e)
 
-    pub enters-black : {answer : ℕ} {g′ : Game} → kind ≡ 2 → CalledAlone (resign (viewOf g) [] black) g answer g′ → Enters answer g′ bytes
+    pub enters-black : {answer : ℕ} {g′ : Game} → kind ≡ 2 → CalledAlone (resign (viewOf g) [] black) g answer g′ → EntersAlone g kind answer g′
     unfolding resign resignGame viewOf
-    enters-black e c =
-        by-kind (entry-black (viewOf g) bytes kind row column e) (alone-true (pauseAnswer (viewOf g)) (resignGame (viewOf g) black) refl c)
+    enters-black e =
+        enters-alone (pauseAnswer (viewOf g)) (resignGame (viewOf g) black) refl (λ bytes row column. entry-black (viewOf g) bytes kind row column e)
 
-    pub enters-white : {answer : ℕ} {g′ : Game} → kind ≡ 3 → CalledAlone (resign (viewOf g) [] white) g answer g′ → Enters answer g′ bytes
+    pub enters-white : {answer : ℕ} {g′ : Game} → kind ≡ 3 → CalledAlone (resign (viewOf g) [] white) g answer g′ → EntersAlone g kind answer g′
     unfolding resign resignGame viewOf
-    enters-white e c =
-        by-kind (entry-white (viewOf g) bytes kind row column e) (alone-true (pauseAnswer (viewOf g)) (resignGame (viewOf g) white) refl c)
+    enters-white e =
+        enters-alone (pauseAnswer (viewOf g)) (resignGame (viewOf g) white) refl (λ bytes row column. entry-white (viewOf g) bytes kind row column e)
 
-    pub enters-resume : {answer : ℕ} {g′ : Game} → kind ≡ 4 → CalledAlone (resume (viewOf g) []) g answer g′ → Enters answer g′ bytes
+    pub enters-resume : {answer : ℕ} {g′ : Game} → kind ≡ 4 → CalledAlone (resume (viewOf g) []) g answer g′ → EntersAlone g kind answer g′
     unfolding resume resumeGame viewOf
-    enters-resume e c = by-kind (entry-resume (viewOf g) bytes kind row column e) (alone-true Accepted (resumeGame (viewOf g)) refl c)
+    enters-resume e = enters-alone Accepted (resumeGame (viewOf g)) refl (λ bytes row column. entry-resume (viewOf g) bytes kind row column e)
 
-    pub enters-unknown : kind ≢ 0 → kind ≢ 1 → kind ≢ 2 → kind ≢ 3 → kind ≢ 4 → Enters (number BadKind) g bytes
+    pub enters-unknown : kind ≢ 0 → kind ≢ 1 → kind ≢ 2 → kind ≢ 3 → kind ≢ 4 → EntersAlone g kind (number BadKind) g
     unfolding result accepts number
     enters-unknown n₀ n₁ n₂ n₃ n₄ =
-        by-kind (entry-unknown (viewOf g) bytes kind row column n₀ n₁ n₂ n₃ n₄)
-        (record { answered = refl; shown = refl; lent = refl; kept = is .0; long = refl; room = is .1; refused = λ n. (refl, refl) })
+        record {
+          entered = λ bytes row column room. by-kind bytes row column (entry-unknown (viewOf g) bytes kind row column n₀ n₁ n₂ n₃ n₄)
+              (record { answered = refl; shown = refl; lent = refl; kept = is; long = refl; room = room; refused = λ n. (refl, refl) });
+        }
