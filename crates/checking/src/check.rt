@@ -23,9 +23,12 @@ pub fn check_point_by(game: Game, history: &[u8], flags: u8, row: u8, column: u8
     point_answer(game, history, flags, row, column)
 }
 
-// By the flags of the game.
+// By the flags of the game, which are good where the state is true. Going over the call above would copy the state once more.
 pub fn check_point(game: Game, history: &[u8], row: u8, column: u8) -> u8
     ensures { λ r. ⌜ Checked (TrueState game × RoomIn game (length (now (history .entry)))) (checkAnswer (viewOf game) (now (history .entry)) (game .flags) row column) r ⌝ }
 {
-    check_point_by(game, history, game.flags, row, column)
+    if !judge_with(game, history.len()) {
+        return DAMAGED;
+    }
+    point_answer(game, history, game.flags, row, column)
 }
