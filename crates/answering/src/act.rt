@@ -1,5 +1,6 @@
 // What was read is done, and the text of the reply is put at the front of the lent buffer.
 use checking::check::check_point_by;
+use drawing::draw::pretty_string;
 use game::calls::Answered;
 use game::calls::new_game;
 use game::calls::pass;
@@ -10,7 +11,6 @@ use legals::list::legals_by;
 use lines::command::Fault;
 use lines::command::Read;
 use lines::words::text_length;
-use listing::draw::pretty_string;
 use playing::handicap::handicap;
 use playing::stone::stone;
 use points::answers::ACCEPTED;

@@ -10,7 +10,7 @@ use points::answers::DAMAGED;
 ghost use lib.ListN.{length};
 ghost use Rattle.rules.specs.Colours.{empty};
 ghost use Rattle.board.specs.Board.{coloursOf};
-ghost use Rattle.listing.specs.declared.shows.Question.the-variants.{Coloured};
+ghost use Rattle.viewing.specs.declared.shows.Question.the-variants.{Coloured};
 ghost use Rattle.listing.specs.Lists.{listAnswer, listed};
 ghost use Rattle.game.specs.View.{TrueState};
 ghost use Rattle.checking.specs.Promise.{Filled};

@@ -1,7 +1,7 @@
 // Boards made by hand: built from colours, drawn and asked. What it writes is known by heart and stands in `stdout`.
 use board::goban::Board;
 use chains::group::index;
-use listing::draw::pretty_string;
+use drawing::draw::pretty_string;
 use listing::list::chain_liberties;
 use placing::place::from_colours;
 use points::sizes::MAX_AREA;

@@ -1,7 +1,7 @@
 // The lists of a board, in a buffer that is lent: points, colours and the picture.
 use board::goban::Board;
-use listing::draw::pretty_string;
-use listing::draw::to_vec;
+use drawing::draw::pretty_string;
+use drawing::draw::to_vec;
 use listing::list::Listed;
 use listing::list::chain_liberties;
 use listing::list::chain_stones;
@@ -16,8 +16,8 @@ ghost use lib.ListN.{length};
 ghost use Rattle.rules.specs.Colours.{empty};
 ghost use Rattle.rules.specs.Picture as pictures;
 ghost use Rattle.board.specs.Board.{coloursOf};
-ghost use Rattle.listing.specs.declared.shows.Question.the-variants as question;
-ghost use Rattle.listing.specs.declared.shows.Local.the-variants as local;
+ghost use Rattle.viewing.specs.declared.shows.Question.the-variants as question;
+ghost use Rattle.viewing.specs.declared.shows.Local.the-variants as local;
 ghost use Rattle.listing.specs.Lists.{lengthAnswer, Answered, Lists};
 
 #[no_mangle]

@@ -27,7 +27,7 @@ ghost use Rattle.rules.specs.Answers.{number};
 ghost use Rattle.rules.specs.Points as points;
 ghost use Rattle.rules.specs.Calls as rules;
 ghost use Rattle.legality.specs.Seen.{Shows};
-ghost use Rattle.listing.specs.Front.{Front};
+ghost use Rattle.viewing.specs.Front.{Front};
 ghost use Rattle.game.specs.View.{viewOf, TrueState, RoomIn};
 ghost use Rattle.checking.specs.Promise.{Filled};
 ghost use Rattle.legals.specs.Legals.{toldAt, settledFree, refused, Filling};

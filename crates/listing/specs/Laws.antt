@@ -1,8 +1,4 @@
 -- What is proved about the definitions. A law stands in the file that is named after its subject.
-pub mod Lists
-pub mod Front
-pub mod View
 pub mod Seen
 pub mod Answers
-pub mod Picture
 pub mod Unique

@@ -1,7 +1,3 @@
--- What the promises of this crate cite beside the rules and the board. Laws are apart from the definitions.
-pub mod View
-pub mod Front
-pub mod Seen
+-- What the promises of this crate cite beside the rules, the board and its view. Laws are apart from the definitions.
 pub mod Lists
-pub mod Picture
 pub mod Laws

@@ -16,10 +16,10 @@ use Rattle.board.specs.declared.goban.Board.{Board}
 use Rattle.board.specs.Board.{coloursOf}
 use Rattle.board.specs.True.{TrueBoard}
 use Rattle.listing.specs.declared.list.Listed.{Listed}
-use Rattle.listing.specs.declared.shows.Local.{Local}
-use Rattle.listing.specs.declared.shows.Local.the-variants.{Chain, Liberties, Points, Stones, Empties, Chains}
-use Rattle.listing.specs.declared.shows.Question as asks
-use Rattle.listing.specs.declared.shows.Question.the-variants as questions
+use Rattle.viewing.specs.declared.shows.Local.{Local}
+use Rattle.viewing.specs.declared.shows.Local.the-variants.{Chain, Liberties, Points, Stones, Empties, Chains}
+use Rattle.viewing.specs.declared.shows.Question as asks
+use Rattle.viewing.specs.declared.shows.Question.the-variants as questions
 
 -- ---- Which points a list has
 

@@ -1,9 +1,5 @@
 // The queries that fill a lent buffer with points, as ascending indexes, after the crate's goban.rs. Each takes any bytes as a board and
 // any buffer.
-use crate::shows::Local;
-use crate::shows::Question;
-use crate::shows::shows;
-use crate::view::view_of;
 use board::goban::Board;
 use board::judge::judge;
 use points::answers::ACCEPTED;
@@ -16,6 +12,10 @@ use points::coord::is_coord_valid;
 use points::sizes::MAX_AREA;
 use points::stones::EMPTY;
 use points::stones::WHITE;
+use viewing::shows::Local;
+use viewing::shows::Question;
+use viewing::shows::shows;
+use viewing::view::view_of;
 ghost use mathlib.Core.Path.{_≡_};
 ghost use Prim.Native.Nat.{_≤_};
 ghost use lib.ListN.{length};
@@ -25,8 +25,8 @@ ghost use Rattle.rules.specs.Answers as answers;
 ghost use Rattle.rules.specs.Points as points;
 ghost use Rattle.board.specs.Board.{coloursOf};
 ghost use Rattle.board.specs.True.{TrueBoard};
-ghost use Rattle.listing.specs.Seen.{passed, Seen, OnBoard};
-ghost use Rattle.listing.specs.Front.{Front};
+ghost use Rattle.viewing.specs.Seen.{passed, Seen, OnBoard};
+ghost use Rattle.viewing.specs.Front.{Front};
 ghost use Rattle.listing.specs.Lists.{lengthAnswer, listAnswer, listed, Left, Lists};
 
 // The number of the answer, and how many places were filled: none where the call is refused.

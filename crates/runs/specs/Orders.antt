@@ -19,8 +19,8 @@ use Rattle.rules.specs.Answers.{HistoryFull, NotAtStart, NoLiberty, BadLength, 
 use Rattle.rules.specs.Game.{Game}
 use Rattle.rules.specs.Calls.{sideOk, paused, outside, offBoard, taken, resulting, Spot, choked, layBlack, Entry, entryCall}
 use Rattle.rules.specs.Picture.{pictureBytes}
-use Rattle.listing.specs.declared.shows.Question.{Question}
-use Rattle.listing.specs.declared.shows.Question.the-variants as questions
+use Rattle.viewing.specs.declared.shows.Question.{Question}
+use Rattle.viewing.specs.declared.shows.Question.the-variants as questions
 use Rattle.game.specs.View.{viewOf, TrueState}
 use Rattle.runs.specs.Runs as runs
 use Rattle.runs.specs.Runs.{Call, Desk, Sound}

@@ -23,7 +23,7 @@ use Rattle.game.specs.Asks.{Asked}
 use Rattle.board.specs.declared.goban.Board.{Board}
 use Rattle.board.specs.True.{TrueBoard}
 use Rattle.listing.specs.declared.list.Listed.{Listed}
-use Rattle.listing.specs.declared.shows.Question.{Question}
+use Rattle.viewing.specs.declared.shows.Question.{Question}
 use Rattle.listing.specs.Lists.{Lists}
 use Rattle.placing.specs.declared.place.Placed.{Placed}
 use Rattle.placing.specs.Placing.{FromColours}

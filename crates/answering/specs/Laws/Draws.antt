@@ -20,8 +20,7 @@ use Rattle.board.specs.True.{TrueBoard}
 use Rattle.board.specs.Laws.Judge.{true-or-not}
 use Rattle.listing.specs.declared.list.Listed.{Listed}
 use Rattle.listing.specs.Lists.{Answered}
-use Rattle.listing.specs.Laws.Answers.{picture-fits}
-use Rattle.listing.specs.Laws.Picture.{length-picture}
+use Rattle.drawing.specs.Laws.Picture.{length-picture, picture-fits}
 use Rattle.wording.specs.Figures.{decimal, hex}
 
 -- the bytes of the largest picture

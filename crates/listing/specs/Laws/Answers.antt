@@ -3,25 +3,24 @@ use mathlib.Core.Path.{_≡_, refl, sym, ap, _∙_}
 use mathlib.Core.Bool.{Bool, true, false, cond, _||_}
 use mathlib.Core.List.{List, [], _++_}
 use mathlib.Core.Logic.{_≢_}
-use Prim.Native.Nat.{ℕ, _≤_, _<_}
+use Prim.Native.Nat.{ℕ, _≤_}
 use native.Mathlib.Omega.{arith}
 use lib.Dec.{ltb, leb}
 use lib.ListN.{length, drop}
-use borrow.Author.Tests.{lt-ltb, le-ltb, ltb-false, leb-false}
+use borrow.Author.Tests.{ltb-false, leb-false}
 use Rattle.rules.specs.Points.{area}
 use Rattle.rules.specs.Answers.{Answer, Damaged, OffBoard, BadLength, number, accepts}
 use Rattle.rules.specs.Calls.{filled}
-use Rattle.rules.specs.Picture.{pictureBytes, pictureAnswer}
 use Rattle.rules.specs.Laws.Lists.{or-none-left, or-none-right}
-use Rattle.rules.specs.Laws.Answers.{accepts-zero, refuses-other, refuses, passes}
+use Rattle.rules.specs.Laws.Answers.{accepts-zero, refuses-other}
 use Rattle.rules.specs.Laws.Calls.{then-first, then-second, refuse-not}
 use Rattle.board.specs.declared.goban.Board.{Board}
 use Rattle.board.specs.True.{TrueBoard}
 use Rattle.listing.specs.declared.list.Listed.{Listed}
-use Rattle.listing.specs.declared.shows.Question as asks
-use Rattle.listing.specs.declared.shows.Question.the-variants as questions
-use Rattle.listing.specs.Front.{over, Front}
-use Rattle.listing.specs.Seen.{OnBoard}
+use Rattle.viewing.specs.declared.shows.Question as asks
+use Rattle.viewing.specs.declared.shows.Question.the-variants as questions
+use Rattle.viewing.specs.Front.{over, Front}
+use Rattle.viewing.specs.Seen.{OnBoard}
 use Rattle.listing.specs.Lists.{lengthAnswer, listAnswer, Left, Answered}
 
 -- ---- What an accepted query tells
@@ -37,15 +36,6 @@ accepted-list h w n (questions.Coloured c) e = (tt, length-enough h w n (then-fi
 accepted-list h w n (questions.At r c local) e =
     let off = refuse-not OffBoard (leb h r || leb w c) refl (then-first _ _ e) in
     ((leb-false h r (or-none-left _ _ off), leb-false w c (or-none-right (leb h r) _ off)), length-enough h w n (then-second _ _ e))
-
--- a picture is refused exactly if the buffer is too short
-pub picture-short : (h w : ℕ) (buffer : List ℕ) → length buffer < pictureBytes h w → number (pictureAnswer h w buffer) ≡ 14
-unfolding pictureAnswer number
-picture-short h w buffer l = ap number (refuses BadLength (lt-ltb (length buffer) (pictureBytes h w) l))
-
-pub picture-fits : (h w : ℕ) (buffer : List ℕ) → pictureBytes h w ≤ length buffer → number (pictureAnswer h w buffer) ≡ 0
-unfolding pictureAnswer number
-picture-fits h w buffer l = ap number (passes BadLength (le-ltb (length buffer) (pictureBytes h w) l))
 
 -- ---- What a query leaves
 

@@ -21,14 +21,14 @@ use Rattle.board.specs.Board.{owner, colourAt, coloursOf}
 use Rattle.board.specs.True.{TrueBoard}
 use Rattle.board.specs.Laws.Board.{area-fits, at-colours, stone-owned}
 use Rattle.board.specs.Laws.Views.{leads-origin}
-use Rattle.listing.specs.declared.shows.Local.{Local}
-use Rattle.listing.specs.declared.shows.Local.the-variants.{Chain, Liberties, Points, Stones, Empties, Chains}
-use Rattle.listing.specs.declared.shows.Question as asks
-use Rattle.listing.specs.declared.shows.Question.the-variants as questions
-use Rattle.listing.specs.View.{leadAt, viewOf}
-use Rattle.listing.specs.Seen.{keyOf, meets, near, passed, Seen, OnBoard}
+use Rattle.viewing.specs.declared.shows.Local.{Local}
+use Rattle.viewing.specs.declared.shows.Local.the-variants.{Chain, Liberties, Points, Stones, Empties, Chains}
+use Rattle.viewing.specs.declared.shows.Question as asks
+use Rattle.viewing.specs.declared.shows.Question.the-variants as questions
+use Rattle.viewing.specs.View.{leadAt, viewOf}
+use Rattle.viewing.specs.Seen.{keyOf, meets, near, passed, Seen, OnBoard}
 use Rattle.listing.specs.Lists.{stone, shownAt, shown, listed}
-use Rattle.listing.specs.Laws.View.{view-colour, view-lead, marked-lead, leads-lead}
+use Rattle.viewing.specs.Laws.View.{view-colour, view-lead, marked-lead, leads-lead}
 
 -- ---- On a true board
 

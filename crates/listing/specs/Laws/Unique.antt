@@ -7,8 +7,8 @@ use Rattle.rules.specs.Answers.{Answer}
 use Rattle.board.specs.declared.goban.Board.{Board}
 use Rattle.board.specs.Laws.Judge.{true-or-not}
 use Rattle.listing.specs.declared.list.Listed.{Listed}
-use Rattle.listing.specs.declared.shows.Question.{Question}
-use Rattle.listing.specs.Front.{Front}
+use Rattle.viewing.specs.declared.shows.Question.{Question}
+use Rattle.viewing.specs.Front.{Front}
 use Rattle.listing.specs.Lists.{Left, Answered, Lists}
 
 module _ {places before after after′ : List ℕ} where

@@ -23,8 +23,8 @@ use Rattle.board.specs.declared.goban.Board.{Board}
 use Rattle.board.specs.Board.{coloursOf}
 use Rattle.board.specs.True.{TrueBoard}
 use Rattle.listing.specs.declared.list.Listed.{Listed}
-use Rattle.listing.specs.declared.shows.Question.{Question}
-use Rattle.listing.specs.declared.shows.Question.the-variants as questions
+use Rattle.viewing.specs.declared.shows.Question.{Question}
+use Rattle.viewing.specs.declared.shows.Question.the-variants as questions
 use Rattle.listing.specs.Lists as listing
 use Rattle.placing.specs.declared.place.Placed.{Placed}
 use Rattle.placing.specs.Placing.{FromColours}

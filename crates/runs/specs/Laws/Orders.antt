@@ -22,8 +22,8 @@ use Rattle.rules.specs.Calls.{sizeAnswer, flagsAnswer, newAnswer, forbiddenAnsw
 use Rattle.rules.specs.Calls.{result, stone, pass, resign, resume, handicapAnswer, boardAnswer, listAnswer, choked, layBlack, Entry, entryCall, Replayed, replayFrom}
 use Rattle.rules.specs.Laws.Lists.{decided, and-left, and-right, and-both}
 use Rattle.rules.specs.Picture.{pictureAnswer}
-use Rattle.listing.specs.declared.shows.Question.{Question}
-use Rattle.listing.specs.declared.shows.Question.the-variants as questions
+use Rattle.viewing.specs.declared.shows.Question.{Question}
+use Rattle.viewing.specs.declared.shows.Question.the-variants as questions
 use Rattle.listing.specs.Lists as listing
 use Rattle.rules.specs.Laws.Answers.{then-refused, then-accepted}
 use Rattle.runs.specs.Orders.{Row, row, firstOf, First, clear, this, later}

@@ -27,7 +27,7 @@ use Rattle.queries.specs.Answered.{offBoard, Answered}
 use Rattle.queries.specs.Goban.{noSize, sizeOf, noHash, hashOf, noStones, stonesOf, noChains, chainsOf, noColour, colourOf, noTest, breathes}
 use Rattle.queries.specs.Group.{noChain, chainAt, chainOf, libertyAt}
 use Rattle.listing.specs.declared.list.Listed.{Listed}
-use Rattle.listing.specs.declared.shows.Question.{Question}
+use Rattle.viewing.specs.declared.shows.Question.{Question}
 use Rattle.listing.specs.Lists as listing
 use Rattle.runs.specs.Alike.{placementOf, AlikeBoards}
 use Rattle.runs.specs.Laws.Asked.{query-alike, filling-alike}

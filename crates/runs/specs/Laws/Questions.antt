@@ -14,7 +14,7 @@ use Rattle.board.specs.declared.goban.Board.{Board}
 use Rattle.board.specs.Board.{coloursOf}
 use Rattle.queries.specs.declared.goban.TestAnswer.{TestAnswer}
 use Rattle.listing.specs.declared.list.Listed.{Listed}
-use Rattle.listing.specs.declared.shows.Question.{Question}
+use Rattle.viewing.specs.declared.shows.Question.{Question}
 use Rattle.listing.specs.Lists as listing
 use Rattle.placing.specs.declared.place.Placed.{Placed}
 use Rattle.placing.specs.Placing.{Outcome}

@@ -13,8 +13,8 @@ use Rattle.rules.specs.Points.{area, row, column}
 use Rattle.rules.specs.Answers.{accepts}
 use Rattle.rules.specs.Calls.{pointAnswer, legals}
 use Rattle.board.specs.Laws.Board.{area-fits}
-use Rattle.listing.specs.Front.{Front}
-use Rattle.listing.specs.Laws.Front.{front-pick-none, front-pick, front-skip}
+use Rattle.viewing.specs.Front.{Front}
+use Rattle.viewing.specs.Laws.Front.{front-pick-none, front-pick, front-skip}
 use Rattle.game.specs.declared.state.Game.{Game}
 use Rattle.game.specs.View.{viewOf}
 use Rattle.checking.specs.Laws.Near.{read-shows}

@@ -7,9 +7,9 @@ use lib.ListN.{length, length-set}
 use Rattle.rules.specs.Sizes.{maxArea}
 use Rattle.rules.specs.Lists.{pick, below}
 use Rattle.rules.specs.Points.{area}
-use Rattle.listing.specs.Seen.{passed}
-use Rattle.listing.specs.Front.{Front}
-use Rattle.listing.specs.Laws.Front.{front-pick-none, front-pick, front-skip}
+use Rattle.viewing.specs.Seen.{passed}
+use Rattle.viewing.specs.Front.{Front}
+use Rattle.viewing.specs.Laws.Front.{front-pick-none, front-pick, front-skip}
 use Rattle.listing.proofs.list.fill.Statement.{statement}
 use Rattle.listing.proofs.list.fill.Tie as tie
 

@@ -7,10 +7,10 @@ use Rattle.rules.specs.Lists.{pick, below}
 use Rattle.rules.specs.Points.{area}
 use Rattle.rules.specs.Answers.{number}
 use Rattle.board.specs.Board.{coloursOf}
-use Rattle.listing.specs.declared.view.View.{View}
-use Rattle.listing.specs.Seen.{passed, Seen, OnBoard}
+use Rattle.viewing.specs.declared.view.View.{View}
+use Rattle.viewing.specs.Seen.{passed, Seen, OnBoard}
 use Rattle.listing.specs.Lists.{listAnswer, listed}
-use Rattle.listing.specs.Front.{Front}
+use Rattle.viewing.specs.Front.{Front}
 use Rattle.listing.specs.Laws.Seen.{passed-listed, view-seen}
 use Rattle.rules.specs.Laws.Answers.{accepts-zero}
 use Rattle.listing.specs.Laws.Answers.{accepted-list, left-refused, left-filled}
