@@ -1,26 +1,23 @@
 -- What the judge computes: tests on a board's lists that all say yes exactly on true boards. Those of one slot are over the sizes, the
 -- owner of each point and one chain, so that code that is lent the arrays can promise them.
+use mathlib.Core.Path.{_≡_}
 use mathlib.Core.Bool.{Bool, cond, not, _&&_, _||_}
-use mathlib.Core.List.{List, [], _∷_}
-use Prim.Native.Nat.{ℕ, _+_, _-_}
+use mathlib.Core.List.{List}
+use Prim.Native.Nat.{ℕ, _+_, _≤_, _<_}
 use lib.Dec.{eqb, ltb, leb}
-use lib.ListN.{getD}
-use Rattle.rules.specs.Sizes.{maxSide, maxArea, slots}
-use Rattle.rules.specs.Lists.{any, all, count, below, same, tabulate}
-use Rattle.rules.specs.Points.{area, column, neighbours}
+use lib.ListN.{length}
+use Rattle.rules.specs.Sizes.{maxSide, maxArea, slots, hashEntries}
+use Rattle.rules.specs.Lists.{all, count, below, same, tabulate}
+use Rattle.rules.specs.Points.{area}
 use Rattle.rules.specs.Colours.{black, white}
-use Rattle.rules.specs.Flood.{flooded, marked}
-use Rattle.rules.specs.Hash.{hash}
+use Rattle.rules.specs.Hash.{entry}
 use Rattle.chains.specs.declared.group.Chain.{Chain}
 use Rattle.chains.specs.Group.{used}
 use Rattle.sets.specs.Liberties.{setOf, number}
-use Rattle.chains.specs.Walk.{stepped}
+use Rattle.owning.specs.Owners.{ownerIn, ring, placed, rowApart, columnApart, RowStarts}
+use Rattle.flooding.specs.Flood.{found, shore, hashOf}
 use Rattle.board.specs.declared.goban.Board.{Board}
 use Rattle.board.specs.Board.{owner, chainIn, colourAt}
-
--- what an array of owners says of a point
-unfoldable pub ownerIn : List ℕ → ℕ → ℕ
-ownerIn owners p = getD owners p slots
 
 -- the side of a board
 unfoldable pub sideGood : ℕ → Bool
@@ -29,46 +26,32 @@ sideGood n = ltb 0 n && not (ltb maxSide n)
 unfoldable pub player : ℕ → Bool
 player c = eqb c black || eqb c white
 
-module _ (own : ℕ → ℕ) (next : List ℕ) (s : ℕ) (c : Chain) where
-  -- k links from the origin stands a stone of slot s, and for k above 0 one that comes after the origin
-  unfoldable pub onRing : ℕ → Bool
-  onRing k =
-      let p = stepped next (c .origin) k in
-      eqb (own p) s && (eqb k 0 || ltb (c .origin) p)
+module _ (h w : ℕ) (own : ℕ → ℕ) (next : List ℕ) (s : ℕ) (c : Chain) where
+  -- as many stones as the chain counts are found from its origin
+  unfoldable pub counted : Bool
+  counted = eqb (count (found h w own s (c .origin)) (below (area h w))) (c .count)
 
-  -- the links lead from the origin to last and back, in as many steps as the chain has stones
-  unfoldable pub ring : Bool
-  ring =
-      all onRing (below (c .count))
-      && (eqb (stepped next (c .origin) (c .count - 1)) (c .last) && eqb (stepped next (c .origin) (c .count)) (c .origin))
+  -- its liberties are the empty points beside those stones, and there is one
+  unfoldable pub libertiesGood : Bool
+  libertiesGood = same (c .liberties) (setOf (shore h w own (found h w own s (c .origin)))) && ltb 0 (number (c .liberties))
 
-module _ (h w : ℕ) (own : ℕ → ℕ) where
-  -- a point of the board has no owner or a slot, and a point beyond the board no owner
-  unfoldable pub placed : ℕ → Bool
-  placed p = cond (ltb p (area h w)) (leb (own p) slots) (eqb (own p) slots)
+  unfoldable pub chainGood : Bool
+  chainGood = player (c .colour) && (eqb (own (c .origin)) s && (counted && (ring own next s c && libertiesGood)))
 
-  -- a walk by points of the slot s leads from o to p
-  unfoldable pub found : ℕ → ℕ → ℕ → Bool
-  found s o p = marked (flooded (neighbours h w) (λ q. eqb (own q) s) (area h w) (o ∷ [])) p
+  unfoldable pub slotGood : Bool
+  slotGood = not (used c) || chainGood
 
-  -- q is empty and lies beside a point that passes the test
-  unfoldable pub shore : (ℕ → Bool) → ℕ → Bool
-  shore f q = eqb (own q) slots && any f (neighbours h w q)
-
-  module _ (next : List ℕ) (s : ℕ) (c : Chain) where
-    -- as many stones as the chain counts are found from its origin
-    unfoldable pub counted : Bool
-    counted = eqb (count (found s (c .origin)) (below (area h w))) (c .count)
-
-    -- its liberties are the empty points beside those stones, and there is one
-    unfoldable pub libertiesGood : Bool
-    libertiesGood = same (c .liberties) (setOf (shore (found s (c .origin)))) && ltb 0 (number (c .liberties))
-
-    unfoldable pub chainGood : Bool
-    chainGood = player (c .colour) && (eqb (own (c .origin)) s && (counted && (ring own next s c && libertiesGood)))
-
-    unfoldable pub slotGood : Bool
-    slotGood = not (used c) || chainGood
+-- what is lent to judge a slot
+pub record Lent (h w s : ℕ) (next table : List ℕ) (starts : List Bool) (notes queue : List ℕ) (sum : ℕ) : Type 0 where
+  pub low : s < slots
+  pub fits : area h w ≤ maxArea
+  pub linksLong : length next ≡ maxArea
+  pub notesLong : length notes ≡ maxArea
+  pub queueLong : length queue ≡ maxArea
+  pub numbers : table ≡ tabulate entry 0 hashEntries
+  pub starting : RowStarts h w starts
+  pub hashed : sum ≡ hashOf h w (ownerIn notes)
+  pub standing : (p : ℕ) → ownerIn notes p < slots → p < area h w
 
 -- ---- What the judge notes of each point: a stone that was found has its colour, behind the numbers of the slots
 
@@ -81,22 +64,6 @@ module _ (b : Board) where
 
   unfoldable pub noted : ℕ → ℕ → ℕ
   noted n p = cond (foundBelow n p) (slots + colourAt b p) (owner b p)
-
--- the hash of the stones among the notes; an empty point's note is the number of slots, and a stone's that is not found yet is less
-unfoldable pub hashOf : ℕ → ℕ → (ℕ → ℕ) → ℕ
-hashOf h w note = hash (tabulate (λ p. note p - slots) 0 (area h w))
-
-module _ (own note : ℕ → ℕ) where
-  -- p and q have one owner, or notes apart
-  unfoldable pub apart : ℕ → ℕ → Bool
-  apart p q = eqb (own p) (own q) || not (eqb (note p) (note q))
-
-  -- p and the point to its left, and p and the point above
-  unfoldable pub rowApart : ℕ → ℕ → Bool
-  rowApart w p = eqb (column w p) 0 || apart p (p - 1)
-
-  unfoldable pub columnApart : ℕ → ℕ → Bool
-  columnApart w p = ltb p w || apart p (p - w)
 
 -- ---- All tests
 

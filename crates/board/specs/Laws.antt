@@ -4,16 +4,10 @@ pub mod Chains
 pub mod Slots
 pub mod Views
 pub mod Stones
-pub mod Lists
-pub mod Found
-pub mod Edges
-pub mod Looked
-pub mod Flooding
 pub mod Ring
 pub mod Pairs
 pub mod Tests
 pub mod Judge
 pub mod Slot
-pub mod Seen
 pub mod NewBoard
 pub mod Verdict

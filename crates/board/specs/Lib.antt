@@ -2,5 +2,4 @@
 pub mod Board
 pub mod True
 pub mod Judge
-pub mod Flood
 pub mod Laws

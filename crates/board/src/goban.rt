@@ -1,13 +1,11 @@
 // A board by value: sizes, hash, the slot that owns each point, the links from stone to stone of a chain, and the chains.
 use chains::group::Chain;
 use chains::group::free_table;
+use owning::owners::NO_CHAIN;
 use points::sizes::MAX_AREA;
 use points::sizes::SLOTS;
 ghost use mathlib.Core.Path.{_≡_};
 ghost use Rattle.board.specs.Board.{newBoard};
-
-// What owns a point that no chain owns.
-pub const NO_CHAIN: u16 = SLOTS as u16;
 
 #[repr(C)]
 pub struct Board {

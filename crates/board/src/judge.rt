@@ -1,12 +1,12 @@
 // The judge: whether a board, of whatever bytes, is a true board. Its time is linear in the number of points.
-use crate::edges::row_starts;
 use crate::goban::Board;
-use crate::owners::all_found;
-use crate::owners::all_placed;
-use crate::owners::columns_apart;
-use crate::owners::rows_apart;
 use crate::slot::slot_good;
+use flooding::edges::row_starts;
 use hashing::zobrist::table;
+use owning::owners::all_found;
+use owning::owners::all_placed;
+use owning::owners::columns_apart;
+use owning::owners::rows_apart;
 use points::sizes::MAX_AREA;
 use points::sizes::MAX_SIDE;
 use points::sizes::SLOTS;

@@ -1,11 +1,11 @@
 // One slot of the chain table, judged: its colour, its stones and how many they are, its ring of links and its liberties.
-use crate::flood::flood;
-use crate::owners::owner_at;
-use crate::ring::ring_good;
-use crate::seen::SEEN_WORDS;
-use crate::seen::liberties_good;
 use chains::group::Chain;
 use chains::group::index;
+use flooding::flood::flood;
+use flooding::seen::SEEN_WORDS;
+use flooding::seen::liberties_good;
+use owning::owners::owner_at;
+use owning::ring::ring_good;
 use points::sizes::HASH_ENTRIES;
 use points::sizes::MAX_AREA;
 use points::stones::BLACK;
@@ -13,8 +13,9 @@ use points::stones::WHITE;
 ghost use mathlib.Core.Bool.{true, _&&_};
 ghost use mathlib.Core.Path.{_≡_};
 ghost use Rattle.chains.specs.Group.{used};
-ghost use Rattle.board.specs.Judge.{ownerIn, player, found, chainGood, slotGood};
-ghost use Rattle.board.specs.Flood.{Lent, Passed};
+ghost use Rattle.owning.specs.Owners.{ownerIn};
+ghost use Rattle.flooding.specs.Flood.{found, Passed};
+ghost use Rattle.board.specs.Judge.{player, chainGood, slotGood, Lent};
 
 fn is_player(colour: u8) -> bool
     ensures { λ r. ⌜ r ≡ player colour ⌝ }

@@ -23,9 +23,10 @@ use Rattle.chains.specs.Walk.{stepped, walked}
 use Rattle.board.specs.declared.goban.Board.{Board}
 use Rattle.board.specs.Board.{owner, chainIn, colourAt, coloursOf}
 use Rattle.board.specs.True.{libertyOf, ExactChain, Shaped, ExactTable, TrueBoard}
-use Rattle.board.specs.Judge.{found, shore, foundBelow, noted, hashOf, judged}
+use Rattle.flooding.specs.Flood.{found, shore, hashOf}
+use Rattle.board.specs.Judge.{foundBelow, noted, judged}
 use Rattle.board.specs.Laws.Board.{no-chain, unowned-empty}
-use Rattle.board.specs.Laws.Found.{found-says, found-owner}
+use Rattle.flooding.specs.Laws.Found.{found-says, found-owner}
 use Rattle.board.specs.Laws.Ring.{walked-step, ring-distinct, distinct-first, ring-fills}
 use Rattle.board.specs.Laws.Pairs.{Before, beside-left, beside-above, beside-pair}
 use Rattle.board.specs.Laws.Tests.{used-says, Placed, Apart, Told, Slotted, Judged, judged-says}

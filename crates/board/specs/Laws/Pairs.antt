@@ -9,7 +9,7 @@ use native.Mathlib.Omega.{arith}
 use Rattle.rules.specs.Points.{area, index, row, column, NextTo, sides, neighbours}
 use Rattle.rules.specs.Laws.Lists.{mem-present}
 use Rattle.rules.specs.Laws.Points.{index-row-column, neighbours-adjacent}
-use Rattle.board.specs.Laws.Edges.{above-some, left-some}
+use Rattle.flooding.specs.Laws.Edges.{above-some, left-some}
 
 module _ (h w p : ℕ) (on : p < area h w) where
   pub beside-left : column w p ≢ 0 → List·Memᴰ (p - 1) (neighbours h w p)

@@ -1,18 +1,24 @@
--- Laws of one slot judged: a flood from the origin of its chain makes the chain's tests.
-use mathlib.Core.Path.{_≡_, sym, ap, _∙_, subst, fun-ext}
-use mathlib.Core.Bool.{Bool, false, _&&_}
-use mathlib.Core.List.{List}
-use Prim.Native.Nat.{ℕ, _≤_, _<_}
+-- Laws of one slot judged: a flood from the origin of its chain makes the chain's tests, and owners that agree on the slot and on the
+-- empty points judge it alike.
+use mathlib.Core.Path.{_≡_, sym, ap, ap₂, _∙_, subst, fun-ext}
+use mathlib.Core.Bool.{Bool, false, not, _&&_, _||_}
+use mathlib.Core.List.{List, [], _∷_}
+use Prim.Native.Nat.{ℕ, _-_, _≤_, _<_}
 use native.Mathlib.Omega.{arith}
 use lib.Dec.{eqb, ltb}
-use Rattle.rules.specs.Lists.{same}
-use Rattle.rules.specs.Points.{area}
+use Rattle.rules.specs.Sizes.{slots}
+use Rattle.rules.specs.Lists.{any, all, count, below, same}
+use Rattle.rules.specs.Points.{area, neighbours}
+use Rattle.rules.specs.Flood.{flooded, marked}
 use Rattle.rules.specs.Laws.Places.{count-below-le}
 use Rattle.chains.specs.declared.group.Chain.{Chain}
+use Rattle.chains.specs.Group.{used}
+use Rattle.chains.specs.Walk.{stepped}
 use Rattle.sets.specs.Liberties.{libertyBits, setOf, number}
-use Rattle.board.specs.Judge.{ownerIn, found, counted, libertiesGood}
-use Rattle.board.specs.Flood.{sees, Ready, Lent, Passed, Flooded}
-use Rattle.board.specs.Laws.Found.{shore-off}
+use Rattle.owning.specs.Owners.{ownerIn, onRing, ring}
+use Rattle.flooding.specs.Flood.{found, shore, sees, Ready, Passed, Flooded}
+use Rattle.flooding.specs.Laws.Found.{shore-off}
+use Rattle.board.specs.Judge.{player, counted, libertiesGood, chainGood, slotGood, Lent}
 
 module _ {h w s sum : ℕ} {next table notes queue : List ℕ} {starts : List Bool} (lent : Lent h w s next table starts notes queue sum) where
   pub lent-ready : (c : ℕ) → 0 < c → Ready h w s c notes queue 0 sum
@@ -48,3 +54,22 @@ module _ {h w s sum : ℕ} {next table notes queue : List ℕ} {starts : List Bo
         libertiesGood h w (ownerIn notes) next s chain ≡ (same (chain .liberties) (setOf (sees seen′)) && ltb 0 (number (chain .liberties)))
     unfolding libertiesGood
     chain-liberties = ap (λ (f : ℕ → Bool). same (chain .liberties) (setOf f) && ltb 0 (number (chain .liberties))) (sym (fun-ext (here .shored)))
+
+-- owners that agree on the slot and on the empty points judge it alike
+module _ (h w : ℕ) where
+  pub slot-same :
+      (own own′ : ℕ → ℕ) (next : List ℕ) (s : ℕ) (c : Chain) → ((p : ℕ) → eqb (own p) s ≡ eqb (own′ p) s)
+      → ((q : ℕ) → eqb (own q) slots ≡ eqb (own′ q) slots) → slotGood h w own next s c ≡ slotGood h w own′ next s c
+  unfolding slotGood chainGood counted libertiesGood shore found ring onRing
+  slot-same own own′ next s c ours vacant = ap₂ judge (fun-ext ours) (fun-ext vacant)
+    where
+      judge : (ℕ → Bool) → (ℕ → Bool) → Bool
+      judge mine none =
+          let f : ℕ → Bool = λ p. marked (flooded (neighbours h w) mine (area h w) (c .origin ∷ [])) p in
+          not (used c)
+          || (player (c .colour)
+          && (mine (c .origin)
+          && (eqb (count f (below (area h w))) (c .count)
+          && ((all (λ k. mine (stepped next (c .origin) k) && (eqb k 0 || ltb (c .origin) (stepped next (c .origin) k))) (below (c .count))
+          && (eqb (stepped next (c .origin) (c .count - 1)) (c .last) && eqb (stepped next (c .origin) (c .count)) (c .origin)))
+          && (same (c .liberties) (setOf (λ q. none q && any f (neighbours h w q))) && ltb 0 (number (c .liberties)))))))

@@ -20,8 +20,9 @@ use Rattle.sets.specs.Liberties.{setOf, number}
 use Rattle.chains.specs.Walk.{stepped}
 use Rattle.board.specs.declared.goban.Board.{Board}
 use Rattle.board.specs.Board.{owner, chainIn}
-use Rattle.board.specs.Judge.{sideGood, player, placed, found, shore, onRing, ring, counted, libertiesGood, chainGood, slotGood}
-use Rattle.board.specs.Judge.{noted, hashOf, apart, rowApart, columnApart, judged}
+use Rattle.owning.specs.Owners.{placed, onRing, ring, apart, rowApart, columnApart}
+use Rattle.flooding.specs.Flood.{found, shore, hashOf}
+use Rattle.board.specs.Judge.{sideGood, player, counted, libertiesGood, chainGood, slotGood, noted, judged}
 
 -- ---- Tests of any kind
 

@@ -24,11 +24,13 @@ use Rattle.chains.specs.Group.{used}
 use Rattle.board.specs.declared.goban.Board.{Board}
 use Rattle.board.specs.Board.{owner, chainIn, colourAt}
 use Rattle.board.specs.True.{Shaped}
-use Rattle.board.specs.Judge.{ownerIn, sideGood, placed, found, slotGood, foundBelow, noted, hashOf, rowApart, columnApart, judged}
-use Rattle.board.specs.Flood.{RowStarts, Lent, Passed}
-use Rattle.board.specs.Laws.Lists.{all-below, all-fails-below, and-fails, then-fails}
+use Rattle.owning.specs.Owners.{ownerIn, placed, rowApart, columnApart, RowStarts}
+use Rattle.flooding.specs.Flood.{found, hashOf, Passed}
+use Rattle.board.specs.Judge.{sideGood, slotGood, foundBelow, noted, judged, Lent}
+use Rattle.owning.specs.Laws.Lists.{all-below, all-fails-below, and-fails, then-fails}
 use Rattle.board.specs.Laws.NewBoard.{hash-none}
-use Rattle.board.specs.Laws.Found.{found-not, found-same, slot-same}
+use Rattle.flooding.specs.Laws.Found.{found-not, found-same}
+use Rattle.board.specs.Laws.Slot.{slot-same}
 use Rattle.board.specs.Laws.Tests.{placed-says, slot-says}
 
 -- ---- Sizes

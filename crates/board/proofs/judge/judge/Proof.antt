@@ -18,7 +18,9 @@ use Rattle.chains.specs.Group.{freeChain}
 use Rattle.board.specs.declared.goban.Board.{Board}
 use Rattle.board.specs.Board.{owner, chainIn}
 use Rattle.board.specs.True.{Shaped, TrueBoard}
-use Rattle.board.specs.Judge.{ownerIn, sideGood, placed, slotGood, noted, hashOf, judged}
+use Rattle.owning.specs.Owners.{ownerIn, placed}
+use Rattle.flooding.specs.Flood.{hashOf}
+use Rattle.board.specs.Judge.{sideGood, slotGood, noted, judged}
 use Rattle.board.specs.Laws.Judge.{judged-true}
 use Rattle.board.specs.Laws.Verdict.{side-some, sides-fit, sides-some, sides-wide, Judging, judging-begin, judging-slot, judging-lent, judging-next, notes-all}
 use Rattle.board.specs.Laws.Verdict.{seenGood, rowsGood, columnsGood, no-height, no-width, not-placed, bad-slot, not-seen, not-rows, not-columns, hash-decides}

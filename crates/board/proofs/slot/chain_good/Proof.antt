@@ -8,8 +8,9 @@ use lib.Dec.{eqb}
 use borrow.Author.Tests.{not-true, not-false, eq-eqb, ne-eqb}
 use Rattle.rules.specs.Laws.Lists.{not-both}
 use Rattle.rules.specs.Laws.Colours.{player-stone}
-use Rattle.board.specs.Judge.{ownerIn, player, counted, ring, libertiesGood, chainGood}
-use Rattle.board.specs.Laws.Lists.{and-fails, then-fails}
+use Rattle.owning.specs.Owners.{ownerIn, ring}
+use Rattle.board.specs.Judge.{player, counted, libertiesGood, chainGood}
+use Rattle.owning.specs.Laws.Lists.{and-fails, then-fails}
 use Rattle.board.specs.Laws.Tests.{player-says}
 use Rattle.board.specs.Laws.Slot.{lent-ready, origin-on, chain-passed, chain-counted, chain-seen, chain-liberties}
 use borrow.Author.Needs.{needs}

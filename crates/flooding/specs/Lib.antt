@@ -1,0 +1,3 @@
+-- What the flood of one slot finds and leaves behind. Laws are apart from the definitions.
+pub mod Flood
+pub mod Laws
