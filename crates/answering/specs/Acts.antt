@@ -11,9 +11,9 @@ use Rattle.lines.specs.declared.command.Read.{Read}
 use Rattle.lines.specs.declared.command.Read.the-variants as reads
 use Rattle.lines.specs.Text.{textOf}
 use Rattle.lines.specs.Command.{maxLine}
-use Rattle.wording.specs.Figures.{decimal}
-use Rattle.wording.specs.Replies.{fault}
-use Rattle.wording.specs.Put.{Put}
+use Rattle.writing.specs.Figures.{decimal}
+use Rattle.objecting.specs.Faults.{fault}
+use Rattle.writing.specs.Put.{Put}
 use Rattle.answering.specs.declared.act.Told.{Told}
 use Rattle.answering.specs.Reply.{Reply, Starts, Calls, Lays, Checks, Lists, States, Draws, Says}
 

@@ -9,8 +9,8 @@ use Rattle.game.specs.View.{viewOf, turnOf}
 use Rattle.lines.specs.Text.{textOf}
 use Rattle.lines.specs.Command.{Command, maxLine, meaning}
 use Rattle.lines.specs.Command as commands
-use Rattle.wording.specs.Replies.{fault}
-use Rattle.wording.specs.Put.{Put}
+use Rattle.objecting.specs.Faults.{fault}
+use Rattle.writing.specs.Put.{Put}
 use Rattle.answering.specs.declared.desk.Replied.{Replied}
 use Rattle.answering.specs.Reply.{Reply, Stays, Starts, Calls, Lays, Checks, Lists, States, Draws, Says}
 

@@ -13,7 +13,7 @@ use Rattle.game.specs.declared.state.Game.{Game}
 use Rattle.game.specs.View.{viewOf, TrueState, RoomIn}
 use Rattle.game.specs.Promise.{Made, CalledAlone, Called}
 use Rattle.checking.specs.Promise.{Checked}
-use Rattle.wording.specs.Figures.{decimal, hex}
+use Rattle.writing.specs.Figures.{decimal, hex}
 use Rattle.wording.specs.Replies.{state, points}
 
 pub record Reply : Type 0 where

@@ -4,7 +4,7 @@ use game::state::Game;
 use lines::command::MAX_LINE;
 use lines::command::MAX_SPOTS;
 use lines::read::read_line;
-use wording::put::put_byte;
+use writing::put::put_byte;
 ghost use Rattle.answering.specs.Does.{Replies};
 
 // A buffer of this many bytes holds every reply.

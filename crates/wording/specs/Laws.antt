@@ -1,6 +1,4 @@
 -- What is proved about the definitions.
-pub mod Put
-pub mod Figures
 pub mod Replies
 pub mod State
 pub mod Examples

@@ -1,6 +1,4 @@
 -- What the replies say, letter for letter, and what writing them promises. Laws are apart from the definitions.
-pub mod Figures
 pub mod Replies
-pub mod Put
 pub mod Said
 pub mod Laws

@@ -8,10 +8,8 @@ use lib.ListN.{length}
 use Rattle.rules.specs.Colours.{black, white, at}
 use Rattle.rules.specs.Points.{area, row, column}
 use Rattle.rules.specs.Game.{Game}
-use Rattle.lines.specs.declared.command.Fault.{Fault}
-use Rattle.lines.specs.declared.command.Fault.the-variants as faults
-use Rattle.lines.specs.Text.{ascii, space}
-use Rattle.wording.specs.Figures.{decimal}
+use Rattle.lines.specs.Text.{ascii}
+use Rattle.writing.specs.Figures.{decimal, spaced}
 
 -- ---- The state
 
@@ -44,9 +42,6 @@ abbrev pub rowsUpto : ℕ → List ℕ → ℕ → List ℕ
 rowsUpto w cols zero = []
 rowsUpto w cols (suc p) = rowsUpto w cols p ++ point (startsRow w p) (at cols p)
 
-unfoldable pub spaced : List ℕ → List ℕ
-spaced text = space ∷ text
-
 -- turn, passes, White stones removed, Black stones removed, ko point on a board of this width, outcome, records
 unfoldable pub facts : ℕ → ℕ → ℕ → ℕ → ℕ → Option ℕ → Option ℕ → ℕ → List ℕ
 facts turn passes white black w ko outcome records =
@@ -72,19 +67,3 @@ each (p ∷ ps) = spaced (decimal p) ++ each ps
 -- the answer 0, how many there are, and the points
 unfoldable pub points : List ℕ → List ℕ
 points ps = decimal 0 ++ spaced (decimal (length ps)) ++ each ps
-
--- ---- What is wrong with a line
-
-abbrev pub fault : Fault → List ℕ
-fault faults.Long = ascii "? a line has at most 8192 bytes"
-fault faults.Blank = ascii "? no call"
-fault faults.Unknown = ascii "? no such call"
-fault faults.New = ascii "? new takes height, width, flags and perhaps bytes"
-fault faults.Handicap = ascii "? handicap takes rows and columns in pairs"
-fault faults.Stone = ascii "? stone takes row and column"
-fault faults.Resign = ascii "? resign takes b or w"
-fault faults.Check = ascii "? check takes row, column and flags"
-fault faults.Legals = ascii "? legals takes flags"
-fault faults.Alone = ascii "? this call takes nothing more"
-fault faults.Bytes = ascii "? a game is lent at most 1048576 bytes"
-fault faults.Room = ascii "? more spots than a line can hold"

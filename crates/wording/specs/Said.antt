@@ -7,9 +7,9 @@ use Rattle.game.specs.declared.state.Game.{Game}
 use Rattle.game.specs.declared.asks.Facts.{Facts}
 use Rattle.game.specs.Asks.{namedOf}
 use Rattle.game.specs.View.{viewOf, TrueState}
-use Rattle.wording.specs.Figures.{decimal}
+use Rattle.writing.specs.Figures.{decimal}
 use Rattle.wording.specs.Replies.{facts, state}
-use Rattle.wording.specs.Put.{Put}
+use Rattle.writing.specs.Put.{Put}
 
 -- all of the state but the rows
 unfoldable pub told : Facts → List ℕ

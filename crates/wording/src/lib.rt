@@ -1,4 +1,2 @@
-// Floor 5, the text of a reply: numbers, the state, points, the picture in hexadecimal, and what is wrong with a line.
-pub mod figures;
-pub mod put;
+// Floor 5, the text of a reply: the state and points.
 pub mod replies;

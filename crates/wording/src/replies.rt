@@ -1,14 +1,9 @@
 // What a reply says.
-use crate::figures::put_number;
-use crate::figures::put_spaced;
-use crate::put::put_byte;
-use crate::put::put_text;
 use drawing::draw::to_vec;
 use game::asks::Facts;
 use game::asks::Outcome;
 use game::asks::facts_of;
 use game::state::Game;
-use lines::command::Fault;
 use points::answers::ACCEPTED;
 use points::coord::Place;
 use points::coord::area;
@@ -18,6 +13,9 @@ use points::sizes::MAX_AREA;
 use points::stones::BLACK;
 use points::stones::EMPTY;
 use points::stones::WHITE;
+use writing::figures::put_number;
+use writing::figures::put_spaced;
+use writing::put::put_byte;
 ghost use mathlib.Core.Path.{_≡_};
 ghost use mathlib.Core.List.{[], _∷_};
 ghost use Prim.Native.Nat.{_+_, _*_, _≤_};
@@ -26,8 +24,9 @@ ghost use Rattle.rules.specs.Sizes.{maxArea};
 ghost use Rattle.rules.specs.Points as points;
 ghost use Rattle.points.specs.Place.{placeOf};
 ghost use Rattle.game.specs.Asks.{namedOf};
-ghost use Rattle.wording.specs.Replies.{player, placed, named, sign, startsRow, point, rowsUpto, spaced, each, fault};
-ghost use Rattle.wording.specs.Put.{Put};
+ghost use Rattle.wording.specs.Replies.{player, placed, named, sign, startsRow, point, rowsUpto, each};
+ghost use Rattle.writing.specs.Figures.{spaced};
+ghost use Rattle.writing.specs.Put.{Put};
 ghost use Rattle.wording.specs.Said.{told, Stated};
 
 const SPACE: u8 = 32;
@@ -181,30 +180,4 @@ fn wide(point: u16) -> u64
     ensures { λ r. ⌜ r ≡ point ⌝ }
 {
     point as u64
-}
-
-// What is wrong with a line.
-pub fn put_fault(out: &mut [u8], wrong: Fault) -> usize
-    requires { ⌜ 64 ≤ length (now out) ⌝ }
-    ensures { λ r. ⌜ Put (fault wrong) (now (out .entry)) 0 r (now (out .exit)) ⌝ }
-    ensures { λ r. ⌜ r ≤ 64 ⌝ }
-{
-    match wrong {
-        Fault::Long => put_text(out, 0, b"? a line has at most 8192 bytes"),
-        Fault::Blank => put_text(out, 0, b"? no call"),
-        Fault::Unknown => put_text(out, 0, b"? no such call"),
-        Fault::New => put_text(
-            out,
-            0,
-            b"? new takes height, width, flags and perhaps bytes",
-        ),
-        Fault::Handicap => put_text(out, 0, b"? handicap takes rows and columns in pairs"),
-        Fault::Stone => put_text(out, 0, b"? stone takes row and column"),
-        Fault::Resign => put_text(out, 0, b"? resign takes b or w"),
-        Fault::Check => put_text(out, 0, b"? check takes row, column and flags"),
-        Fault::Legals => put_text(out, 0, b"? legals takes flags"),
-        Fault::Alone => put_text(out, 0, b"? this call takes nothing more"),
-        Fault::Bytes => put_text(out, 0, b"? a game is lent at most 1048576 bytes"),
-        Fault::Room => put_text(out, 0, b"? more spots than a line can hold"),
-    }
 }

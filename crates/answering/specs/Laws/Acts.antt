@@ -10,8 +10,8 @@ use Rattle.game.specs.Promise.{Made, CalledAlone, Called}
 use Rattle.game.specs.View.{TrueState, RoomIn}
 use Rattle.checking.specs.Promise.{Checked}
 use Rattle.lines.specs.Command.{maxLine}
-use Rattle.wording.specs.Figures.{decimal}
-use Rattle.wording.specs.Put.{Put}
+use Rattle.writing.specs.Figures.{decimal}
+use Rattle.writing.specs.Put.{Put}
 use Rattle.answering.specs.declared.act.Told.{Told}
 use Rattle.answering.specs.Reply.{TrueDesk, Stays, Starts, Calls, Lays, Checks, Says}
 use Rattle.answering.specs.Acts.{Acted, Unlent, Tells}

@@ -23,7 +23,7 @@ use Rattle.lines.specs.Reads.{packed, told, laid, laidOver}
 use Rattle.lines.specs.Laws.Line.{echo-short}
 use Rattle.lines.specs.Laws.Few.{spotsIn, maxSpots}
 use Rattle.lines.specs.Laws.Capped.{new-capped, new-game-capped, check-capped, stone-capped, capped, handicap-capped, flags-capped, flags-same}
-use Rattle.wording.specs.Figures.{decimal}
+use Rattle.writing.specs.Figures.{decimal}
 use Rattle.wording.specs.Replies.{points}
 use Rattle.answering.specs.Reply.{Reply, TrueDesk, Calls, listed}
 use Rattle.answering.specs.Does.{Does}

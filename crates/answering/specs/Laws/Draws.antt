@@ -21,7 +21,7 @@ use Rattle.board.specs.Laws.Judge.{true-or-not}
 use Rattle.listing.specs.declared.list.Listed.{Listed}
 use Rattle.listing.specs.Lists.{Answered}
 use Rattle.drawing.specs.Laws.Picture.{length-picture, picture-fits}
-use Rattle.wording.specs.Figures.{decimal, hex}
+use Rattle.writing.specs.Figures.{decimal, hex}
 
 -- the bytes of the largest picture
 abbrev pub maxPicture : ℕ

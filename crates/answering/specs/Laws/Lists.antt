@@ -24,8 +24,8 @@ use Rattle.game.specs.declared.state.Game.{Game}
 use Rattle.game.specs.View.{viewOf, TrueState, RoomIn}
 use Rattle.checking.specs.Laws.State.{room-or-not}
 use Rattle.checking.specs.Promise.{Filled}
-use Rattle.wording.specs.Figures.{decimal}
-use Rattle.wording.specs.Replies.{spaced, each, points}
+use Rattle.writing.specs.Figures.{decimal, spaced}
+use Rattle.wording.specs.Replies.{each, points}
 use Rattle.answering.specs.Reply.{listed}
 
 pick-few : (f : ℕ → Bool) (n : ℕ) → length (pick f (below n)) ≤ n

@@ -1,32 +1,13 @@
--- Laws of the replies: one byte, one point more.
+-- Laws of the replies: one point more.
 use mathlib.Core.Path.{_≡_, refl, sym, ap, _∙_}
 use mathlib.Core.List.{List, [], _∷_, _++_, append-assoc, append-nil}
-use Prim.Native.Nat.{ℕ, _+_, _*_, _/_, _%_, _<_}
+use Prim.Native.Nat.{ℕ, _+_, _<_}
 use native.Mathlib.Numerals.{add-one}
-use native.Mathlib.Omega.{arith}
 use lib.ListN.{length, getD, take}
-use lib.Seq.{take-suc}
 use Rattle.rules.specs.Colours.{at}
-use Rattle.wording.specs.Figures.{decimal, hexDigit, hex}
-use Rattle.wording.specs.Replies.{startsRow, point, rowsUpto, spaced, each}
-
-taken : (l : List ℕ) (i : ℕ) → i < length l → take (i + 1) l ≡ take i l ++ (getD l i 0 ∷ [])
-taken l i h = rw add-one (take-suc l i 0 h)
-
-hex-append : (xs ys : List ℕ) → hex (xs ++ ys) ≡ hex xs ++ hex ys
-hex-append [] ys = refl
-hex-append (x ∷ xs) ys = ap (λ (l : List ℕ). hexDigit (x / 16) ∷ hexDigit (x % 16) ∷ l) (hex-append xs ys)
-
-pub length-hex : (bytes : List ℕ) → length (hex bytes) ≡ 2 * length bytes
-length-hex [] = refl
-length-hex (b ∷ bytes) = let ih = length-hex bytes in omega arith
-
--- the two digits of one byte more
-pub hex-more : (bytes : List ℕ) (i : ℕ) → i < length bytes
-    → hex (take i bytes) ++ (hexDigit (getD bytes i 0 / 16) ∷ []) ++ (hexDigit (getD bytes i 0 % 16) ∷ []) ≡ hex (take (i + 1) bytes)
-hex-more bytes i l =
-    append-assoc (hex (take i bytes)) (hexDigit (getD bytes i 0 / 16) ∷ []) (hexDigit (getD bytes i 0 % 16) ∷ [])
-    ∙ sym (ap hex (taken bytes i l) ∙ hex-append (take i bytes) (getD bytes i 0 ∷ []))
+use Rattle.writing.specs.Figures.{decimal, spaced}
+use Rattle.writing.specs.Laws.Figures.{taken}
+use Rattle.wording.specs.Replies.{startsRow, point, rowsUpto, each}
 
 each-append : (xs ys : List ℕ) → each (xs ++ ys) ≡ each xs ++ each ys
 each-append [] ys = refl

@@ -21,7 +21,8 @@ use Rattle.game.specs.declared.asks.Facts.{Facts}
 use Rattle.game.specs.Asks.{noFacts, Told, Asked}
 use Rattle.game.specs.View.{viewOf, TrueState}
 use Rattle.lines.specs.Text.{space}
-use Rattle.wording.specs.Replies.{facts, spaced, startsRow, point, rowsUpto, state}
+use Rattle.writing.specs.Figures.{spaced}
+use Rattle.wording.specs.Replies.{facts, startsRow, point, rowsUpto, state}
 use Rattle.wording.specs.Said.{told}
 
 -- ---- The answer

@@ -7,7 +7,7 @@ use lib.Seq.{length-take-le}
 use Rattle.lines.specs.Text.{textLength, textOf}
 use Rattle.lines.specs.Command.{maxLine}
 use Rattle.lines.specs.Laws.Line.{text-within}
-use Rattle.wording.specs.Laws.Put.{put-same}
+use Rattle.writing.specs.Laws.Put.{put-same}
 use Rattle.answering.specs.Laws.Acts.{said-says}
 use borrow.Author.Needs.{needs}
 use Rattle.answering.proofs.act.do_echo.Statement.{statement}

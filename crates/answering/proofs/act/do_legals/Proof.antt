@@ -6,9 +6,9 @@ use mathlib.Core.List.{_++_}
 use lib.ListN.{length, take}
 use lib.Seq.{length-take-le}
 use Rattle.rules.specs.Sizes.{maxArea}
-use Rattle.wording.specs.Figures.{decimal}
-use Rattle.wording.specs.Replies.{spaced, each}
-use Rattle.wording.specs.Laws.Put.{put-then}
+use Rattle.writing.specs.Figures.{decimal, spaced}
+use Rattle.wording.specs.Replies.{each}
+use Rattle.writing.specs.Laws.Put.{put-then}
 use Rattle.answering.specs.Reply.{TrueDesk}
 use Rattle.answering.specs.Laws.Acts.{told-stays}
 use Rattle.answering.specs.Laws.Lists.{listed-few, refused-text, damaged-text, accepted-true, accepted-text}

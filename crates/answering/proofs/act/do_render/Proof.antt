@@ -4,8 +4,8 @@ use Prim.Native.Nat.{_≤_}
 use native.Mathlib.Omega.{arith}
 use lib.ListN.{length, take}
 use lib.Seq.{length-take-le}
-use Rattle.wording.specs.Figures.{decimal, hex}
-use Rattle.wording.specs.Laws.Replies.{length-hex}
+use Rattle.writing.specs.Figures.{decimal, hex}
+use Rattle.writing.specs.Laws.Figures.{length-hex}
 use Rattle.answering.specs.Acts.{Unlent}
 use Rattle.answering.specs.Laws.Acts.{told-stays}
 use Rattle.answering.specs.Laws.Draws.{maxPicture, drawn-few, drawn-refused, drawn-damaged, drawn-true, drawn-text}

@@ -5,7 +5,7 @@ use native.Mathlib.Omega.{arith}
 use Rattle.rules.specs.Answers.{Damaged, number}
 use Rattle.game.specs.View.{viewOf}
 use Rattle.checking.specs.Laws.State.{state-or-not}
-use Rattle.wording.specs.Figures.{decimal}
+use Rattle.writing.specs.Figures.{decimal}
 use Rattle.wording.specs.Replies.{state}
 use Rattle.answering.specs.Acts.{Unlent}
 use borrow.Author.Needs.{needs}

@@ -8,7 +8,7 @@ use Rattle.lines.specs.declared.command.Read.{Read}
 use Rattle.lines.specs.Command.{meaning}
 use Rattle.lines.specs.Reads.{told}
 use Rattle.lines.specs.Laws.Few.{maxSpots, meaning-few}
-use Rattle.wording.specs.Laws.Put.{put-then}
+use Rattle.writing.specs.Laws.Put.{put-then}
 use Rattle.answering.specs.Reply.{Reply}
 use Rattle.answering.specs.Acts.{Acts, Ready}
 use Rattle.answering.specs.Laws.Does.{ready-told, does-told}

@@ -5,7 +5,7 @@ use Prim.Native.Nat.{ℕ}
 use native.Mathlib.Omega.{arith}
 use Rattle.wording.specs.Replies.{facts}
 use Rattle.wording.specs.Said.{told}
-use Rattle.wording.specs.Laws.Put.{put-then, put-same}
+use Rattle.writing.specs.Laws.Put.{put-then, put-same}
 use borrow.Author.Needs.{needs}
 use Rattle.wording.proofs.replies.put_facts.Statement.{statement}
 use Rattle.wording.proofs.replies.put_facts.Tie as tie

@@ -3,8 +3,8 @@ use mathlib.Core.Path.{ap}
 use mathlib.Core.List.{[], _∷_}
 use Prim.Native.Nat.{ℕ}
 use native.Mathlib.Omega.{arith}
-use Rattle.wording.specs.Replies.{spaced}
-use Rattle.wording.specs.Laws.Put.{put-then, put-same}
+use Rattle.writing.specs.Figures.{spaced}
+use Rattle.writing.specs.Laws.Put.{put-then, put-same}
 use borrow.Author.Needs.{needs}
 use Rattle.wording.proofs.replies.put_outcome.Statement.{statement}
 use Rattle.wording.proofs.replies.put_outcome.Tie as tie

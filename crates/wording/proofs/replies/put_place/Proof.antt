@@ -2,9 +2,8 @@
 use mathlib.Core.Path.{ap}
 use Prim.Native.Nat.{ℕ}
 use native.Mathlib.Omega.{arith}
-use Rattle.wording.specs.Figures.{decimal}
-use Rattle.wording.specs.Replies.{spaced}
-use Rattle.wording.specs.Laws.Put.{put-then, put-same}
+use Rattle.writing.specs.Figures.{decimal, spaced}
+use Rattle.writing.specs.Laws.Put.{put-then, put-same}
 use borrow.Author.Needs.{needs}
 use Rattle.wording.proofs.replies.put_place.Statement.{statement}
 use Rattle.wording.proofs.replies.put_place.Tie as tie

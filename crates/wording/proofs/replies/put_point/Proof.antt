@@ -4,7 +4,7 @@ use mathlib.Core.List.{[], _∷_}
 use Prim.Native.Nat.{ℕ}
 use native.Mathlib.Omega.{arith}
 use Rattle.wording.specs.Replies.{point}
-use Rattle.wording.specs.Laws.Put.{put-then, put-same}
+use Rattle.writing.specs.Laws.Put.{put-then, put-same}
 use borrow.Author.Needs.{needs}
 use Rattle.wording.proofs.replies.put_point.Statement.{statement}
 use Rattle.wording.proofs.replies.put_point.Tie as tie

@@ -3,10 +3,10 @@ use mathlib.Core.Path.{ap}
 use Prim.Native.Nat.{ℕ, _+_, _*_, _-_, _≤_}
 use native.Mathlib.Omega.{arith}
 use lib.ListN.{length, take}
-use Rattle.wording.specs.Figures.{decimal}
-use Rattle.wording.specs.Replies.{spaced, each}
-use Rattle.wording.specs.Put.{Put}
-use Rattle.wording.specs.Laws.Put.{put-none, put-then, put-same, put-all}
+use Rattle.writing.specs.Figures.{decimal, spaced}
+use Rattle.wording.specs.Replies.{each}
+use Rattle.writing.specs.Put.{Put}
+use Rattle.writing.specs.Laws.Put.{put-none, put-then, put-same, put-all}
 use Rattle.wording.specs.Laws.Replies.{each-more}
 use borrow.Author.Needs.{needs}
 use Rattle.wording.proofs.replies.put_points.Statement.{statement}

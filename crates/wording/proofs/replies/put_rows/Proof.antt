@@ -5,8 +5,8 @@ use Prim.Native.Nat.{_+_, _*_, _-_, _≤_}
 use native.Mathlib.Omega.{arith}
 use Rattle.rules.specs.Colours.{at}
 use Rattle.wording.specs.Replies.{point, rowsUpto}
-use Rattle.wording.specs.Put.{Put}
-use Rattle.wording.specs.Laws.Put.{put-none, put-then, put-same}
+use Rattle.writing.specs.Put.{Put}
+use Rattle.writing.specs.Laws.Put.{put-none, put-then, put-same}
 use Rattle.wording.specs.Laws.Replies.{rows-more}
 use borrow.Author.Needs.{needs}
 use Rattle.wording.proofs.replies.put_rows.Statement.{statement}

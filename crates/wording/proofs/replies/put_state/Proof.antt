@@ -4,10 +4,10 @@ use Prim.Native.Nat.{_≤_}
 use native.Mathlib.Omega.{arith}
 use Rattle.rules.specs.Sizes.{maxArea}
 use Rattle.rules.specs.Answers.{number}
-use Rattle.wording.specs.Figures.{decimal}
+use Rattle.writing.specs.Figures.{decimal}
 use Rattle.wording.specs.Replies.{rowsUpto}
 use Rattle.game.specs.Asks.{noFacts}
-use Rattle.wording.specs.Laws.Put.{put-then, put-same}
+use Rattle.writing.specs.Laws.Put.{put-then, put-same}
 use Rattle.wording.specs.Laws.State.{undamaged, area-undamaged, damaged-answer, state-said}
 use borrow.Author.Needs.{needs}
 use Rattle.wording.proofs.replies.put_state.Statement.{statement}

@@ -1,9 +1,9 @@
 -- `hex_digit`: the case of the definition.
 use borrow.Author.Tests.{lt-ltb, le-ltb}
-use Rattle.wording.specs.Figures.{hexDigit}
+use Rattle.writing.specs.Figures.{hexDigit}
 use borrow.Author.Needs.{needs}
-use Rattle.wording.proofs.figures.hex_digit.Statement.{statement}
-use Rattle.wording.proofs.figures.hex_digit.Tie as tie
+use Rattle.writing.proofs.figures.hex_digit.Statement.{statement}
+use Rattle.writing.proofs.figures.hex_digit.Tie as tie
 
 add-result : tie.Need-add-result
 add-result c = search needs

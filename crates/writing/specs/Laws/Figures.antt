@@ -1,14 +1,17 @@
--- Laws of Figures: the fewest digits that hold a number are its decimal.
-use mathlib.Core.Path.{_≡_, sym, ap, ap₂, _∙_}
-use mathlib.Core.List.{List, [], _∷_, _++_}
+-- Laws of Figures: the fewest digits that hold a number are its decimal, and what one byte more says.
+use mathlib.Core.Path.{_≡_, refl, sym, ap, ap₂, _∙_}
+use mathlib.Core.List.{List, [], _∷_, _++_, append-assoc}
 use mathlib.Core.Logic.{⊎-elim}
 use Prim.Native.Nat.{ℕ, zero, suc, _+_, _-_, _*_, _/_, _%_, _^_, _≤_, _<_}
 use native.Mathlib.Nat.{pow-suc, pow-le-pow-right}
+use native.Mathlib.Numerals.{add-one}
 use native.Mathlib.Omega.{arith}
+use lib.ListN.{length, getD, take}
+use lib.Seq.{take-suc}
 use borrow.Author.Tests.{lt-ltb, le-ltb}
 use Rattle.rules.specs.Laws.Lists.{below-or-not}
 use Rattle.io.specs.Digits.{glyph, digits, Fewest}
-use Rattle.wording.specs.Figures.{decimalFrom, decimal}
+use Rattle.writing.specs.Figures.{decimalFrom, decimal, hexDigit, hex}
 
 small : (fuel n : ℕ) → n < 10 → decimalFrom (suc fuel) n ≡ (48 + n) ∷ []
 small fuel n l = rw (lt-ltb n 10 l, decimalFrom)
@@ -69,3 +72,23 @@ fewest-most n k m f l h =
     absurd (omega arith))
     (λ few. few)
     (below-or-not m k)
+
+-- ---- One byte more
+
+pub taken : (l : List ℕ) (i : ℕ) → i < length l → take (i + 1) l ≡ take i l ++ (getD l i 0 ∷ [])
+taken l i h = rw add-one (take-suc l i 0 h)
+
+hex-append : (xs ys : List ℕ) → hex (xs ++ ys) ≡ hex xs ++ hex ys
+hex-append [] ys = refl
+hex-append (x ∷ xs) ys = ap (λ (l : List ℕ). hexDigit (x / 16) ∷ hexDigit (x % 16) ∷ l) (hex-append xs ys)
+
+pub length-hex : (bytes : List ℕ) → length (hex bytes) ≡ 2 * length bytes
+length-hex [] = refl
+length-hex (b ∷ bytes) = let ih = length-hex bytes in omega arith
+
+-- the two digits of one byte more
+pub hex-more : (bytes : List ℕ) (i : ℕ) → i < length bytes
+    → hex (take i bytes) ++ (hexDigit (getD bytes i 0 / 16) ∷ []) ++ (hexDigit (getD bytes i 0 % 16) ∷ []) ≡ hex (take (i + 1) bytes)
+hex-more bytes i l =
+    append-assoc (hex (take i bytes)) (hexDigit (getD bytes i 0 / 16) ∷ []) (hexDigit (getD bytes i 0 % 16) ∷ [])
+    ∙ sym (ap hex (taken bytes i l) ∙ hex-append (take i bytes) (getD bytes i 0 ∷ []))

@@ -4,9 +4,8 @@ use crate::put::put_text;
 ghost use mathlib.Core.Path.{_≡_};
 ghost use Prim.Native.Nat.{_+_, _*_, _≤_, _<_};
 ghost use lib.ListN.{length};
-ghost use Rattle.wording.specs.Figures.{decimal, hexDigit, hex};
-ghost use Rattle.wording.specs.Replies.{spaced};
-ghost use Rattle.wording.specs.Put.{Put};
+ghost use Rattle.writing.specs.Figures.{decimal, spaced, hexDigit, hex};
+ghost use Rattle.writing.specs.Put.{Put};
 
 const SPACE: u8 = 32;
 

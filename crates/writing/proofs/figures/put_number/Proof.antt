@@ -2,11 +2,11 @@
 use mathlib.Core.Path.{_∙_}
 use Prim.Native.Nat.{_≤_}
 use native.Mathlib.Omega.{arith}
-use Rattle.wording.specs.Laws.Figures.{fewest-decimal, fewest-most}
-use Rattle.wording.specs.Laws.Put.{put-same}
+use Rattle.writing.specs.Laws.Figures.{fewest-decimal, fewest-most}
+use Rattle.writing.specs.Laws.Put.{put-same}
 use borrow.Author.Needs.{needs}
-use Rattle.wording.proofs.figures.put_number.Statement.{statement}
-use Rattle.wording.proofs.figures.put_number.Tie as tie
+use Rattle.writing.proofs.figures.put_number.Statement.{statement}
+use Rattle.writing.proofs.figures.put_number.Tie as tie
 
 decimal-requires : tie.Need-decimal-requires
 decimal-requires c κs = search needs

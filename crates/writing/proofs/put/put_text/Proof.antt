@@ -4,10 +4,10 @@ use mathlib.Core.List.{List}
 use Prim.Native.Nat.{ℕ, _+_, _-_, _≤_}
 use native.Mathlib.Omega.{arith}
 use lib.ListN.{length, take}
-use Rattle.wording.specs.Put.{Put}
-use Rattle.wording.specs.Laws.Put.{put-none, put-next, put-all}
-use Rattle.wording.proofs.put.put_text.Statement.{statement}
-use Rattle.wording.proofs.put.put_text.Tie as tie
+use Rattle.writing.specs.Put.{Put}
+use Rattle.writing.specs.Laws.Put.{put-none, put-next, put-all}
+use Rattle.writing.proofs.put.put_text.Statement.{statement}
+use Rattle.writing.proofs.put.put_text.Tie as tie
 
 abbrev Inv-loop : tie.InvT-loop
 Inv-loop out₀ from text at₀ i₀ out at i = (i ≤ length text) × (at ≡ from + i) × Put (take i text) out₀ from at out

@@ -7,7 +7,7 @@ use native.Mathlib.Numerals.{add-one}
 use native.Mathlib.Omega.{arith}
 use lib.ListN.{length, getD, take, drop, set, length-set, length-append, take-append-drop}
 use lib.Seq.{take-suc, take-suc-set, drop-set-lt, drop-drop, take-all}
-use Rattle.wording.specs.Put.{Put}
+use Rattle.writing.specs.Put.{Put}
 
 -- one byte
 pub put-one : (before : List ℕ) (at b : ℕ) → at < length before → Put (b ∷ []) before at (at + 1) (set before at b)

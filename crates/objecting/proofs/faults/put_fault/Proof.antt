@@ -1,8 +1,8 @@
 -- `put_fault`: each case has its words.
 use native.Mathlib.Omega.{arith}
 use borrow.Author.Needs.{needs}
-use Rattle.wording.proofs.replies.put_fault.Statement.{statement}
-use Rattle.wording.proofs.replies.put_fault.Tie as tie
+use Rattle.objecting.proofs.faults.put_fault.Statement.{statement}
+use Rattle.objecting.proofs.faults.put_fault.Tie as tie
 
 enum-told : tie.Need-enum-told
 enum-told c = search needs

@@ -1,8 +1,9 @@
--- Numbers as text: decimal, and bytes in hexadecimal.
+-- Numbers as text: decimal, behind a space, and bytes in hexadecimal.
 use mathlib.Core.Bool.{true, false, cond}
 use mathlib.Core.List.{List, [], _∷_, _++_}
 use Prim.Native.Nat.{ℕ, zero, suc, _+_, _/_, _%_}
 use lib.Dec.{ltb}
+use Rattle.lines.specs.Text.{space}
 
 -- the fuel is never used up
 abbrev pub decimalFrom : ℕ → ℕ → List ℕ
@@ -13,6 +14,9 @@ decimalFrom (suc fuel) n =
 -- the digits of a number, with no zero before them
 unfoldable pub decimal : ℕ → List ℕ
 decimal n = decimalFrom (suc n) n
+
+unfoldable pub spaced : List ℕ → List ℕ
+spaced text = space ∷ text
 
 -- 0 to 9, then a to f
 unfoldable pub hexDigit : ℕ → ℕ

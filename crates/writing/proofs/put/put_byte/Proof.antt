@@ -1,8 +1,8 @@
 -- `put_byte`: one store.
-use Rattle.wording.specs.Laws.Put.{put-one}
+use Rattle.writing.specs.Laws.Put.{put-one}
 use borrow.Author.Needs.{needs}
-use Rattle.wording.proofs.put.put_byte.Statement.{statement}
-use Rattle.wording.proofs.put.put_byte.Tie as tie
+use Rattle.writing.proofs.put.put_byte.Statement.{statement}
+use Rattle.writing.proofs.put.put_byte.Tie as tie
 
 slice-write-out : tie.Need-slice-write-out
 slice-write-out c = search needs

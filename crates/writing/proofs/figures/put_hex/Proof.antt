@@ -4,12 +4,12 @@ use mathlib.Core.List.{[], _∷_}
 use Prim.Native.Nat.{ℕ, _+_, _*_, _-_, _≤_}
 use native.Mathlib.Omega.{arith}
 use lib.ListN.{length, take}
-use Rattle.wording.specs.Figures.{hex}
-use Rattle.wording.specs.Put.{Put}
-use Rattle.wording.specs.Laws.Put.{put-none, put-then, put-same, put-all}
-use Rattle.wording.specs.Laws.Replies.{hex-more}
-use Rattle.wording.proofs.figures.put_hex.Statement.{statement}
-use Rattle.wording.proofs.figures.put_hex.Tie as tie
+use Rattle.writing.specs.Figures.{hex}
+use Rattle.writing.specs.Put.{Put}
+use Rattle.writing.specs.Laws.Put.{put-none, put-then, put-same, put-all}
+use Rattle.writing.specs.Laws.Figures.{hex-more}
+use Rattle.writing.proofs.figures.put_hex.Statement.{statement}
+use Rattle.writing.proofs.figures.put_hex.Tie as tie
 
 abbrev Inv-loop : tie.InvT-loop
 Inv-loop out₀ from bytes at₀ i₀ out at i = (i ≤ length bytes) × (at ≡ from + 2 * i) × Put (hex (take i bytes)) out₀ from at out

@@ -1,10 +1,10 @@
 -- `put_spaced`: a space before the digits.
 use native.Mathlib.Omega.{arith}
-use Rattle.wording.specs.Replies.{spaced}
-use Rattle.wording.specs.Laws.Put.{put-then}
+use Rattle.writing.specs.Figures.{spaced}
+use Rattle.writing.specs.Laws.Put.{put-then}
 use borrow.Author.Needs.{needs}
-use Rattle.wording.proofs.figures.put_spaced.Statement.{statement}
-use Rattle.wording.proofs.figures.put_spaced.Tie as tie
+use Rattle.writing.proofs.figures.put_spaced.Statement.{statement}
+use Rattle.writing.proofs.figures.put_spaced.Tie as tie
 
 put-byte-requires : tie.Need-put-byte-requires
 put-byte-requires c κs = search needs

@@ -1,0 +1,2 @@
+-- What is said of a line that is no call, letter for letter.
+pub mod Faults

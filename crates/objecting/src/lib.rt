@@ -1,0 +1,2 @@
+// Floor 5, what is wrong with a line, as text.
+pub mod faults;
