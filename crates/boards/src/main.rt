@@ -2,6 +2,7 @@
 use board::goban::Board;
 use chains::group::index;
 use drawing::draw::pretty_string;
+use grouping::group::chain_at;
 use listing::list::chain_liberties;
 use placing::place::from_colours;
 use points::sizes::MAX_AREA;
@@ -9,7 +10,6 @@ use points::sizes::MAX_SIDE;
 use points::stones::BLACK;
 use points::stones::WHITE;
 use queries::goban::number_of_chains;
-use queries::group::chain_at;
 ghost use Rattle.io.specs.Counts.{Counts};
 
 // As many of the bytes as there are.

@@ -1,6 +1,9 @@
 // Boards by value: made, judged and asked.
 use board::goban::Board;
 use board::judge::judge;
+use grouping::group::ChainAnswer;
+use grouping::group::chain_at;
+use grouping::group::contains_liberty;
 use placing::place::Placed;
 use placing::place::from_colours;
 use placing::place::new_board;
@@ -16,16 +19,13 @@ use queries::goban::number_of_chains;
 use queries::goban::number_of_stones;
 use queries::goban::size;
 use queries::goban::zobrist_hash;
-use queries::group::ChainAnswer;
-use queries::group::chain_at;
-use queries::group::contains_liberty;
 ghost use mathlib.Core.Path.{_≡_};
 ghost use mathlib.Core.Bool.{true, false, _||_};
 ghost use Rattle.board.specs.True.{TrueBoard};
 ghost use Rattle.placing.specs.Placing.{NewBoard, FromColours};
-ghost use Rattle.queries.specs.Answered.{Answered, offBoard};
+ghost use Rattle.vetting.specs.Answered.{Answered, offBoard};
 ghost use Rattle.queries.specs.Goban.{noSize, sizeOf, noHash, hashOf, noStones, stonesOf, noChains, chainsOf, noColour, colourOf, noTest, breathes};
-ghost use Rattle.queries.specs.Group.{noChain, chainOf, libertyAt};
+ghost use Rattle.grouping.specs.Group.{noChain, chainOf, libertyAt};
 
 #[no_mangle]
 pub extern "C" fn samtrekhu_new_board(height: u8, width: u8) -> Placed

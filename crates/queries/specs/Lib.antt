@@ -1,5 +1,3 @@
--- What the queries' promises cite: how a query answers, and what it tells by the rules.
-pub mod Answered
+-- What the queries' promises cite: what a query tells by the rules.
 pub mod Goban
-pub mod Group
 pub mod Laws

@@ -1,6 +1,4 @@
 // What is asked of a board, by the names of the crate's goban.rs. A query that refuses gives 0 for every value.
-use crate::answers::answer_at;
-use crate::answers::answer_of;
 use board::goban::Board;
 use chains::group::Chain;
 use chains::group::index;
@@ -12,6 +10,8 @@ use points::sizes::SLOTS;
 use points::stones::BLACK;
 use points::stones::EMPTY;
 use points::stones::WHITE;
+use vetting::answers::answer_at;
+use vetting::answers::answer_of;
 ghost use mathlib.Core.Bool.{false, cond};
 ghost use mathlib.Core.Path.{_≡_};
 ghost use lib.Dec.{eqb};
@@ -25,7 +25,7 @@ ghost use Rattle.rules.specs.Game as game;
 ghost use Rattle.chains.specs.Group.{used};
 ghost use Rattle.board.specs.Board.{coloursOf};
 ghost use Rattle.board.specs.True.{TrueBoard};
-ghost use Rattle.queries.specs.Answered.{Answered, offBoard};
+ghost use Rattle.vetting.specs.Answered.{Answered, offBoard};
 ghost use Rattle.queries.specs.Goban.{ownerOf, unowned, noSize, sizeOf, noHash, hashOf, noStones, stonesOf, noChains, chainsOf, noColour, colourOf, noTest, breathes};
 
 #[repr(C)]

@@ -1,4 +1,2 @@
-// Floor 3, what is asked of a board: numbers, after the crate's goban.rs and group.rs. Each query judges the board first.
-mod answers;
+// Floor 3, what is asked of a board: numbers, after the crate's goban.rs. Each query judges the board first.
 pub mod goban;
-pub mod group;

@@ -14,7 +14,7 @@ use Rattle.rules.specs.Laws.Lists.{getD-default, equal-or-not}
 use Rattle.chains.specs.declared.group.Chain.{Chain}
 use Rattle.chains.specs.Group.{freeChain}
 use Rattle.board.specs.declared.goban.Board.{Board}
-use Rattle.board.specs.Board.{owner, chainIn, coloursOf}
+use Rattle.board.specs.Board.{owner, chainIn, colourAt, coloursOf}
 use Rattle.board.specs.True.{TrueBoard}
 use Rattle.board.specs.Laws.Board.{at-colours, empty-unowned}
 use Rattle.board.specs.Laws.Views.{empty-owner}
@@ -87,3 +87,8 @@ module _ (b : Board) (is : TrueBoard b) where
     pub found-slot : (s : ℕ) → found ≡ Slot s → owner b p ≡ s
     unfolding owner
     found-slot s e = ownerOf-slot (owner b p) s (ap (λ (q : ℕ). ownerOf (owner b q)) (sym same) ∙ sym read ∙ e) .0
+
+  -- the slot that owns it has its colour
+  pub colour-told : (p s : ℕ) → owner b p ≡ s → chainIn b s .colour ≡ at (coloursOf b) p
+  unfolding colourAt
+  colour-told p s owns = ap (λ (t : ℕ). chainIn b t .colour) (sym owns) ∙ sym (at-colours b (is .table) p)

@@ -14,7 +14,7 @@ use Rattle.points.specs.declared.coord.Place.the-variants.{Off, At}
 use Rattle.points.specs.Place.{placeOf}
 use Rattle.board.specs.declared.goban.Board.{Board}
 use Rattle.board.specs.True.{TrueBoard}
-use Rattle.queries.specs.Answered as queries
+use Rattle.vetting.specs.Answered as queries
 use Rattle.board.specs.Laws.Judge.{true-or-not}
 use Rattle.listing.specs.declared.list.Listed.{Listed}
 use Rattle.listing.specs.Lists as listing

@@ -22,10 +22,10 @@ use Rattle.queries.specs.declared.goban.StonesAnswer.{StonesAnswer}
 use Rattle.queries.specs.declared.goban.ChainsAnswer.{ChainsAnswer}
 use Rattle.queries.specs.declared.goban.ColourAnswer.{ColourAnswer}
 use Rattle.queries.specs.declared.goban.TestAnswer.{TestAnswer}
-use Rattle.queries.specs.declared.group.ChainAnswer.{ChainAnswer}
-use Rattle.queries.specs.Answered.{offBoard, Answered}
+use Rattle.grouping.specs.declared.group.ChainAnswer.{ChainAnswer}
+use Rattle.vetting.specs.Answered.{offBoard, Answered}
 use Rattle.queries.specs.Goban.{noSize, sizeOf, noHash, hashOf, noStones, stonesOf, noChains, chainsOf, noColour, colourOf, noTest, breathes}
-use Rattle.queries.specs.Group.{noChain, chainAt, chainOf, libertyAt}
+use Rattle.grouping.specs.Group.{noChain, chainAt, chainOf, libertyAt}
 use Rattle.listing.specs.declared.list.Listed.{Listed}
 use Rattle.viewing.specs.declared.shows.Question.{Question}
 use Rattle.listing.specs.Lists as listing

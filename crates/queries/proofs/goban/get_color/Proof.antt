@@ -8,9 +8,8 @@ use Rattle.rules.specs.Points.{index}
 use Rattle.rules.specs.Answers.{number}
 use Rattle.chains.specs.declared.group.Chain.{Chain}
 use Rattle.queries.specs.Goban.{noColour, colourOf}
-use Rattle.queries.specs.Laws.Answered.{answered-refused, answered-told}
-use Rattle.queries.specs.Laws.Owner.{chain-read, found-under, found-nobody, found-slot}
-use Rattle.queries.specs.Laws.Group.{colour-told}
+use Rattle.vetting.specs.Laws.Answered.{answered-refused, answered-told}
+use Rattle.queries.specs.Laws.Owner.{chain-read, found-under, found-nobody, found-slot, colour-told}
 use Rattle.queries.proofs.goban.get_color.Statement.{statement}
 use Rattle.queries.proofs.goban.get_color.Tie as tie
 
@@ -69,7 +68,7 @@ returns-3 c =
     s (c .before .before .slot .given .1) in
     let colours =
     ap (λ (chain : Chain). chain .colour) (chain-read b t s _ (under (c .before)))
-    ∙ colour-told b (start .args .row) (start .args .column) t s (under (c .before)) owns in
+    ∙ colour-told b t (index (b .width) (start .args .row) (start .args .column)) s owns in
     answered-told noColour _ (t, on) (λ i. record { answer = 0; colour = colours i })
 
 pub get-color-spec : {M : Type 1} → statement M

@@ -8,7 +8,7 @@ use Rattle.rules.specs.Points.{neighbours}
 use Rattle.rules.specs.Flood.{touches}
 use Rattle.rules.specs.Answers.{number}
 use Rattle.queries.specs.Goban.{noTest, breathes}
-use Rattle.queries.specs.Laws.Answered.{answered-refused, answered-told}
+use Rattle.vetting.specs.Laws.Answered.{answered-refused, answered-told}
 use Rattle.queries.specs.Laws.Owner.{unowned-empty}
 use Rattle.queries.proofs.goban.has_liberties.Statement.{statement}
 use Rattle.queries.proofs.goban.has_liberties.Tie as tie

@@ -5,7 +5,7 @@ use borrow.Author.Needs.{needs}
 use Rattle.rules.specs.Game.{Player}
 use Rattle.rules.specs.Answers.{number}
 use Rattle.queries.specs.Goban.{noStones, stonesOf}
-use Rattle.queries.specs.Laws.Answered.{answered-refused, answered-told}
+use Rattle.vetting.specs.Laws.Answered.{answered-refused, answered-told}
 use Rattle.queries.proofs.goban.number_of_stones.Statement.{statement}
 use Rattle.queries.proofs.goban.number_of_stones.Tie as tie
 

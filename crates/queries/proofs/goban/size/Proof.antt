@@ -3,7 +3,7 @@ use mathlib.Core.Path.{refl}
 use borrow.Author.Needs.{needs}
 use Rattle.rules.specs.Answers.{number}
 use Rattle.queries.specs.Goban.{noSize, sizeOf}
-use Rattle.queries.specs.Laws.Answered.{answered-refused, answered-told}
+use Rattle.vetting.specs.Laws.Answered.{answered-refused, answered-told}
 use Rattle.queries.proofs.goban.size.Statement.{statement}
 use Rattle.queries.proofs.goban.size.Tie as tie
 

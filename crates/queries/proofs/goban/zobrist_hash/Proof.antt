@@ -3,7 +3,7 @@ use mathlib.Core.Path.{refl}
 use borrow.Author.Needs.{needs}
 use Rattle.rules.specs.Answers.{number}
 use Rattle.queries.specs.Goban.{noHash, hashOf}
-use Rattle.queries.specs.Laws.Answered.{answered-refused, answered-told}
+use Rattle.vetting.specs.Laws.Answered.{answered-refused, answered-told}
 use Rattle.queries.proofs.goban.zobrist_hash.Statement.{statement}
 use Rattle.queries.proofs.goban.zobrist_hash.Tie as tie
 

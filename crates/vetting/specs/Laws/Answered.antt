@@ -14,7 +14,7 @@ use Rattle.rules.specs.Laws.Points.{index-on}
 use Rattle.board.specs.declared.goban.Board.{Board}
 use Rattle.board.specs.True.{TrueBoard}
 use Rattle.board.specs.Laws.Judge.{true-or-not}
-use Rattle.queries.specs.Answered.{offBoard, Judged, Answered}
+use Rattle.vetting.specs.Answered.{offBoard, Judged, Answered}
 
 -- ---- The answer's number
 

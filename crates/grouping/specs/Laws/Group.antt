@@ -22,8 +22,8 @@ use Rattle.board.specs.Board.{owner, chainIn, colourAt, coloursOf}
 use Rattle.board.specs.True.{TrueBoard}
 use Rattle.board.specs.Laws.Board.{at-colours}
 use Rattle.board.specs.Laws.Views.{owned-exact, chain-size, chain-liberties, origin-marked, origin-least, owned-on, owned-stone, liberty-has}
 use Rattle.queries.specs.Goban.{noTest}
-use Rattle.queries.specs.Group.{first, noChain, chainAt, chainOf, libertyAt, told}
+use Rattle.grouping.specs.Group.{first, noChain, chainAt, chainOf, libertyAt, told}
 
 -- the least number that passes is the first that is picked
 picked-first :
@@ -90,10 +90,6 @@ module _ (b : Board) (r c : ℕ) where
     chainOf-told =
         ap (λ (t : ℕ). told (chainIn b t)) (sym owns) ∙ told-chain b is (index (b .width) r c) found-owned
         ∙ rw (ne-eqb (at (coloursOf b) (index (b .width) r c)) empty (owned-stone b is (index (b .width) r c) found-owned))
-
-    pub colour-told : chainIn b s .colour ≡ at (coloursOf b) (index (b .width) r c)
-    unfolding colourAt
-    colour-told = ap (λ (t : ℕ). chainIn b t .colour) (sym owns) ∙ sym (at-colours b (is .table) (index (b .width) r c))
 
     pub liberty-told :
         (q : ℕ) → q < area (b .height) (b .width) →

@@ -15,8 +15,8 @@ use Rattle.chains.specs.declared.group.Chain.{Chain}
 use Rattle.sets.specs.Liberties.{number}
 use Rattle.board.specs.declared.goban.Board.{Board}
 use Rattle.board.specs.Board.{coloursOf}
 use Rattle.queries.specs.declared.goban.TestAnswer.{TestAnswer}
-use Rattle.queries.specs.declared.group.ChainAnswer.{ChainAnswer}
+use Rattle.grouping.specs.declared.group.ChainAnswer.{ChainAnswer}
 
 -- the least point of p's chain
 unfoldable pub first : ℕ → ℕ → List ℕ → ℕ → ℕ

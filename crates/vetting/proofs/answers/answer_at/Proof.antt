@@ -2,9 +2,9 @@
 use mathlib.Core.Bool.{false}
 use borrow.Author.Needs.{needs}
 use Rattle.rules.specs.Answers.{number}
-use Rattle.queries.specs.Laws.Answered.{judged-kept, judged-beyond, judged-accepted, valid-says}
-use Rattle.queries.proofs.answers.answer_at.Statement.{statement}
-use Rattle.queries.proofs.answers.answer_at.Tie as tie
+use Rattle.vetting.specs.Laws.Answered.{judged-kept, judged-beyond, judged-accepted, valid-says}
+use Rattle.vetting.proofs.answers.answer_at.Statement.{statement}
+use Rattle.vetting.proofs.answers.answer_at.Tie as tie
 
 answer-of-requires : tie.Need-answer-of-requires
 answer-of-requires c κs = search needs

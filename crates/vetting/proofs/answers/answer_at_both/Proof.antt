@@ -4,10 +4,10 @@ use mathlib.Core.Path.{_≡_}
 use borrow.Author.Needs.{needs}
 use Rattle.rules.specs.Answers.{number}
 use Rattle.rules.specs.Laws.Lists.{or-right}
-use Rattle.queries.specs.Answered.{offBoard}
-use Rattle.queries.specs.Laws.Answered.{judged-kept, judged-beyond, judged-accepted, valid-says}
-use Rattle.queries.proofs.answers.answer_at_both.Statement.{statement}
-use Rattle.queries.proofs.answers.answer_at_both.Tie as tie
+use Rattle.vetting.specs.Answered.{offBoard}
+use Rattle.vetting.specs.Laws.Answered.{judged-kept, judged-beyond, judged-accepted, valid-says}
+use Rattle.vetting.proofs.answers.answer_at_both.Statement.{statement}
+use Rattle.vetting.proofs.answers.answer_at_both.Tie as tie
 
 answer-at-requires : tie.Need-answer-at-requires
 answer-at-requires c κs = search needs

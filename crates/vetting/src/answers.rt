@@ -6,7 +6,7 @@ use points::answers::DAMAGED;
 use points::answers::OFF_BOARD;
 use points::coord::is_coord_valid;
 ghost use mathlib.Core.Bool.{false, _||_};
-ghost use Rattle.queries.specs.Answered.{Judged, offBoard};
+ghost use Rattle.vetting.specs.Answered.{Judged, offBoard};
 
 pub fn answer_of(board: Board) -> u8
     ensures { λ r. ⌜ Judged board false r ⌝ }

@@ -6,12 +6,12 @@ use borrow.Author.Needs.{needs}
 use Rattle.rules.specs.Sizes.{slots}
 use Rattle.rules.specs.Points.{index}
 use Rattle.rules.specs.Answers.{number}
-use Rattle.queries.specs.Group.{noChain, told}
-use Rattle.queries.specs.Laws.Answered.{answered-refused, answered-told}
+use Rattle.grouping.specs.Group.{noChain, told}
+use Rattle.vetting.specs.Laws.Answered.{answered-refused, answered-told}
 use Rattle.queries.specs.Laws.Owner.{chain-read, found-under, found-nobody, found-slot}
-use Rattle.queries.specs.Laws.Group.{chainOf-none, chainOf-told}
-use Rattle.queries.proofs.group.chain_at.Statement.{statement}
-use Rattle.queries.proofs.group.chain_at.Tie as tie
+use Rattle.grouping.specs.Laws.Group.{chainOf-none, chainOf-told}
+use Rattle.grouping.proofs.group.chain_at.Statement.{statement}
+use Rattle.grouping.proofs.group.chain_at.Tie as tie
 
 -- the slot that was found is one of the table
 under : (c : tie.After-known-told) → c .before .slot .given .0 .0 < slots

@@ -1,23 +1,23 @@
 // What is asked of the chain at a point, by the names of the crate's group.rs. At an empty point there is none.
-use crate::answers::answer_at;
-use crate::answers::answer_at_both;
-use crate::goban::Owner;
-use crate::goban::TestAnswer;
-use crate::goban::owner_at;
 use board::goban::Board;
 use chains::group::Chain;
 use chains::group::index;
 use points::answers::ACCEPTED;
 use points::coord::two_to_1dim;
 use points::stones::EMPTY;
+use queries::goban::Owner;
+use queries::goban::TestAnswer;
+use queries::goban::owner_at;
 use sets::liberties::contains_liberty as contains;
 use sets::liberties::number_of_liberties;
+use vetting::answers::answer_at;
+use vetting::answers::answer_at_both;
 ghost use mathlib.Core.Bool.{_||_};
 ghost use mathlib.Core.Path.{_≡_};
 ghost use Rattle.sets.specs.Liberties.{has};
-ghost use Rattle.queries.specs.Answered.{Answered, offBoard};
+ghost use Rattle.vetting.specs.Answered.{Answered, offBoard};
 ghost use Rattle.queries.specs.Goban.{noTest};
-ghost use Rattle.queries.specs.Group.{noChain, told, chainOf, libertyAt};
+ghost use Rattle.grouping.specs.Group.{noChain, told, chainOf, libertyAt};
 
 // The chain at a point, if one is present: its colour, its stones, its liberties, whether it has exactly one, and its least point.
 #[repr(C)]

@@ -1,8 +1,8 @@
 -- `queries::group::no_chain`: 0 for every value.
 use mathlib.Core.Path.{refl}
-use Rattle.queries.specs.Group.{noChain}
-use Rattle.queries.proofs.group.no_chain.Statement.{statement}
-use Rattle.queries.proofs.group.no_chain.Tie as tie
+use Rattle.grouping.specs.Group.{noChain}
+use Rattle.grouping.proofs.group.no_chain.Statement.{statement}
+use Rattle.grouping.proofs.group.no_chain.Tie as tie
 
 returns : tie.Need-returns
 unfolding noChain

@@ -10,14 +10,14 @@ use Rattle.rules.specs.Answers.{number}
 use Rattle.rules.specs.Laws.Lists.{or-none-right}
 use Rattle.chains.specs.declared.group.Chain.{Chain}
 use Rattle.sets.specs.Liberties.{has}
-use Rattle.queries.specs.Answered.{offBoard}
+use Rattle.vetting.specs.Answered.{offBoard}
 use Rattle.queries.specs.Goban.{noTest}
-use Rattle.queries.specs.Group.{libertyAt}
-use Rattle.queries.specs.Laws.Answered.{answered-refused, answered-told, offBoard-on}
+use Rattle.grouping.specs.Group.{libertyAt}
+use Rattle.vetting.specs.Laws.Answered.{answered-refused, answered-told, offBoard-on}
 use Rattle.queries.specs.Laws.Owner.{chain-read, found-under, found-nobody, found-slot}
-use Rattle.queries.specs.Laws.Group.{libertyAt-none, liberty-told}
-use Rattle.queries.proofs.group.contains_liberty.Statement.{statement}
-use Rattle.queries.proofs.group.contains_liberty.Tie as tie
+use Rattle.grouping.specs.Laws.Group.{libertyAt-none, liberty-told}
+use Rattle.grouping.proofs.group.contains_liberty.Statement.{statement}
+use Rattle.grouping.proofs.group.contains_liberty.Tie as tie
 
 -- the slot that was found is one of the table
 under : (c : tie.After-known-told) → c .before .slot .given .0 .0 < slots

@@ -4,9 +4,9 @@ use borrow.Author.Tests.{not-true, not-false}
 use borrow.Author.Needs.{needs}
 use Rattle.rules.specs.Answers.{number}
 use Rattle.rules.specs.Laws.Lists.{not-both}
-use Rattle.queries.specs.Laws.Answered.{judged-damaged, judged-accepted}
-use Rattle.queries.proofs.answers.answer_of.Statement.{statement}
-use Rattle.queries.proofs.answers.answer_of.Tie as tie
+use Rattle.vetting.specs.Laws.Answered.{judged-damaged, judged-accepted}
+use Rattle.vetting.proofs.answers.answer_of.Statement.{statement}
+use Rattle.vetting.proofs.answers.answer_of.Tie as tie
 
 judge-requires : tie.Need-judge-requires
 judge-requires c κs = search needs

@@ -3,9 +3,9 @@ use mathlib.Core.Bool.{true}
 use lib.Dec.{eqb}
 use borrow.Author.Needs.{needs}
 use Rattle.rules.specs.Answers.{number}
-use Rattle.queries.specs.Group.{told}
-use Rattle.queries.proofs.group.tell.Statement.{statement}
-use Rattle.queries.proofs.group.tell.Tie as tie
+use Rattle.grouping.specs.Group.{told}
+use Rattle.grouping.proofs.group.tell.Statement.{statement}
+use Rattle.grouping.proofs.group.tell.Tie as tie
 
 index-requires : tie.Need-index-requires
 index-requires c κs = search needs
