@@ -9,7 +9,7 @@ use Rattle.game.specs.declared.state.Game.{Game}
 use Rattle.game.specs.View.{viewOf, turnOf}
 use Rattle.lines.specs.declared.command.Read.{Read}
 use Rattle.lines.specs.declared.command.Read.the-variants as reads
-use Rattle.lines.specs.Text.{textOf}
+use Rattle.spelling.specs.Text.{textOf}
 use Rattle.lines.specs.Command.{maxLine}
 use Rattle.writing.specs.Figures.{decimal}
 use Rattle.objecting.specs.Faults.{fault}

@@ -6,7 +6,7 @@ use lib.ListN.{length}
 use Rattle.rules.specs.Calls as rules
 use Rattle.game.specs.declared.state.Game.{Game}
 use Rattle.game.specs.View.{viewOf, turnOf}
-use Rattle.lines.specs.Text.{textOf}
+use Rattle.spelling.specs.Text.{textOf}
 use Rattle.lines.specs.Command.{Command, maxLine, meaning}
 use Rattle.lines.specs.Command as commands
 use Rattle.objecting.specs.Faults.{fault}

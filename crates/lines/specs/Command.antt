@@ -12,8 +12,8 @@ use Rattle.lines.specs.declared.command.Fault.{Fault}
 use Rattle.lines.specs.declared.command.Fault.the-variants as faults
 use Rattle.lines.specs.declared.command.Name.{Name}
 use Rattle.lines.specs.declared.command.Name.the-variants as names
-use Rattle.lines.specs.Text.{ascii, textOf, words}
-use Rattle.lines.specs.Number.{numbers}
+use Rattle.spelling.specs.Text.{ascii, textOf, words}
+use Rattle.spelling.specs.Number.{numbers, maxLent}
 
 -- ---- Sizes
 
@@ -21,10 +21,7 @@ use Rattle.lines.specs.Number.{numbers}
 abbrev pub maxLine : ℕ
 maxLine = 8192
 
--- the most bytes of history that a game can be lent, and how many it is lent where a line leaves them out
-abbrev pub maxLent : ℕ
-maxLent = 1048576
-
+-- how many bytes of history a game is lent where a line leaves them out
 abbrev pub usualLent : ℕ
 usualLent = 655360
 

@@ -1,7 +1,4 @@
 -- What is proved about the definitions.
-pub mod Text
-pub mod Number
-pub mod Steps
 pub mod Calls
 pub mod Handicap
 pub mod Spots

@@ -1,6 +1,4 @@
 -- What one line of text means, from its bytes alone, and what reading it promises. Laws are apart from the definitions.
-pub mod Text
-pub mod Number
 pub mod Command
 pub mod Reads
 pub mod Steps

@@ -9,7 +9,7 @@ use Rattle.rules.specs.Calls.{Spot}
 use Rattle.lines.specs.declared.command.Read.{Read}
 use Rattle.lines.specs.declared.command.Read.the-variants as reads
 use Rattle.lines.specs.declared.command.Fault.the-variants as faults
-use Rattle.lines.specs.Number.{byteOf}
+use Rattle.spelling.specs.Number.{byteOf}
 use Rattle.lines.specs.Command as commands
 use Rattle.lines.specs.Command.{Command}
 

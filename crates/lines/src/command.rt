@@ -62,9 +62,7 @@ pub enum Read {
 
 // The longest line that is read, without its end.
 pub const MAX_LINE: usize = 8192;
-// The most bytes of history that a game can be lent, and how many it is lent where a line leaves them out.
-pub const MAX_LENT: usize = 1048576;
-
+// How many bytes of history a game is lent where a line leaves them out.
 pub const USUAL_LENT: usize = 655360;
 // The most spots of a line: each takes four bytes at least.
 pub const MAX_SPOTS: usize = MAX_LINE / 4;

@@ -1,5 +1,3 @@
 // Floor 5, the text of a call: one line of bytes is read as a command.
 pub mod command;
-pub mod number;
 pub mod read;
-pub mod words;

@@ -3,7 +3,7 @@ use mathlib.Core.List.{List}
 use Prim.Native.Nat.{ℕ}
 use Rattle.lines.specs.declared.command.Fault.{Fault}
 use Rattle.lines.specs.declared.command.Fault.the-variants as faults
-use Rattle.lines.specs.Text.{ascii}
+use Rattle.spelling.specs.Text.{ascii}
 
 abbrev pub fault : Fault → List ℕ
 fault faults.Long = ascii "? a line has at most 8192 bytes"

@@ -3,13 +3,13 @@ use answering::desk::REPLY_BYTES;
 use answering::desk::answer;
 use game::calls::new_game;
 use game::state::Game;
-use lines::command::MAX_LENT;
 use lines::command::MAX_LINE;
 use lines::command::USUAL_LENT;
+use spelling::number::MAX_LENT;
 ghost use mathlib.Core.Path.{_≡_};
 ghost use Prim.Native.Nat.{_≤_};
 ghost use lib.ListN.{length};
-ghost use Rattle.lines.specs.Command.{maxLent};
+ghost use Rattle.spelling.specs.Number.{maxLent};
 ghost use Rattle.serving.specs.Kept.{Keeps};
 
 const LINE_FEED: u8 = 10;

@@ -8,7 +8,7 @@ use lib.ListN.{length}
 use Rattle.rules.specs.Colours.{black, white, at}
 use Rattle.rules.specs.Points.{area, row, column}
 use Rattle.rules.specs.Game.{Game}
-use Rattle.lines.specs.Text.{ascii}
+use Rattle.spelling.specs.Text.{ascii}
 use Rattle.writing.specs.Figures.{decimal, spaced}
 
 -- ---- The state

@@ -3,7 +3,7 @@ use mathlib.Core.Bool.{true, false, cond}
 use mathlib.Core.List.{List, [], _∷_, _++_}
 use Prim.Native.Nat.{ℕ, zero, suc, _+_, _/_, _%_}
 use lib.Dec.{ltb}
-use Rattle.lines.specs.Text.{space}
+use Rattle.spelling.specs.Text.{space}
 
 -- the fuel is never used up
 abbrev pub decimalFrom : ℕ → ℕ → List ℕ

@@ -16,7 +16,7 @@ use Rattle.placing.specs.Placing.{spotsOf}
 use Rattle.game.specs.declared.state.Game.{Game}
 use Rattle.game.specs.View.{viewOf, TrueState}
 use Rattle.game.specs.Promise.{Made, CalledAlone, Called}
-use Rattle.lines.specs.Number.{byteOf}
+use Rattle.spelling.specs.Number.{byteOf}
 use Rattle.lines.specs.Command.{Command, meaning}
 use Rattle.lines.specs.Command as commands
 use Rattle.lines.specs.Reads.{packed, told, laid, laidOver}

@@ -16,19 +16,20 @@ use Rattle.lines.specs.declared.command.Read.{Read}
 use Rattle.lines.specs.declared.command.Read.the-variants as reads
 use Rattle.lines.specs.declared.command.Fault.{Fault}
 use Rattle.lines.specs.declared.command.Fault.the-variants as faults
-use Rattle.lines.specs.declared.number.Number.{Number}
-use Rattle.lines.specs.declared.number.Number.the-variants.{Is, Not}
-use Rattle.lines.specs.declared.number.Two.{Two}
-use Rattle.lines.specs.declared.number.Two.the-variants as two
-use Rattle.lines.specs.declared.number.Three.{Three}
-use Rattle.lines.specs.declared.number.Three.the-variants as three
-use Rattle.lines.specs.declared.number.Four.{Four}
-use Rattle.lines.specs.declared.number.Four.the-variants as four
-use Rattle.lines.specs.Number.{byteOf}
-use Rattle.lines.specs.Command.{Command, maxLent, usualLent, newOf, stoneOf, checkOf, legalsOf, playerOf, resignOf, alone}
+use Rattle.spelling.specs.declared.number.Number.{Number}
+use Rattle.spelling.specs.declared.number.Number.the-variants.{Is, Not}
+use Rattle.spelling.specs.declared.number.Two.{Two}
+use Rattle.spelling.specs.declared.number.Two.the-variants as two
+use Rattle.spelling.specs.declared.number.Three.{Three}
+use Rattle.spelling.specs.declared.number.Three.the-variants as three
+use Rattle.spelling.specs.declared.number.Four.{Four}
+use Rattle.spelling.specs.declared.number.Four.the-variants as four
+use Rattle.spelling.specs.Number.{byteOf, maxLent}
+use Rattle.lines.specs.Command.{Command, usualLent, newOf, stoneOf, checkOf, legalsOf, playerOf, resignOf, alone}
 use Rattle.lines.specs.Command as commands
 use Rattle.lines.specs.Reads.{told, laid}
-use Rattle.lines.specs.Steps.{most, ended, oneOf, twoFrom, twoOf, threeFrom, threeOf, fourFrom, fourOf, Plainly}
+use Rattle.spelling.specs.Steps.{most, ended, oneOf, twoFrom, twoOf, threeFrom, threeOf, fourFrom, fourOf}
+use Rattle.lines.specs.Steps.{Plainly}
 
 -- a byte does not tell whether the number was capped
 pub byte-capped : (n : ℕ) → byteOf (min n most) ≡ byteOf n

@@ -17,7 +17,7 @@ use Rattle.rules.specs.Game.{Game, TrueSize, freshGame}
 use Rattle.rules.specs.Calls.{Spot, result, sideOk, sizeAnswer, flagsAnswer, newAnswer, newGame, outside, offBoard, pointAnswer, checkAnswer, stoneAnswer, stoneGame, stone, spotsAnswer, layAnswer, handicapAnswer, handicapGame, handicapped, legals, listAnswer}
 use Rattle.rules.specs.Laws.Lists.{below-or-not, decided, not-both, not-yes, or-none-left, or-none-right}
 use Rattle.rules.specs.Laws.Calls.{then-first, then-second, refuse-not, size-true}
-use Rattle.lines.specs.Number.{byteOf}
+use Rattle.spelling.specs.Number.{byteOf}
 
 -- ---- Tests against small numbers
 

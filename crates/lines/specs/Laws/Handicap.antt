@@ -11,12 +11,12 @@ use Rattle.rules.specs.Calls.{Spot}
 use Rattle.lines.specs.declared.command.Read.the-variants as reads
 use Rattle.lines.specs.declared.command.Fault.{Fault}
 use Rattle.lines.specs.declared.command.Fault.the-variants as faults
-use Rattle.lines.specs.declared.number.Number.the-variants.{Is, Not}
-use Rattle.lines.specs.Number.{consed}
+use Rattle.spelling.specs.declared.number.Number.the-variants.{Is, Not}
+use Rattle.spelling.specs.Number.{consed}
 use Rattle.lines.specs.Command.{Command, handicapOf, spotted, preceded, pairs}
 use Rattle.lines.specs.Command as commands
 use Rattle.lines.specs.Reads.{told, laid, laidOver, packed, Reads}
-use Rattle.lines.specs.Steps.{countOf}
+use Rattle.spelling.specs.Steps.{countOf}
 
 -- ---- The numbers, in pairs
 

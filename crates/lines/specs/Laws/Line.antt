@@ -12,7 +12,7 @@ use Rattle.rules.specs.Laws.Lists.{decided}
 use Rattle.lines.specs.declared.command.Read.the-variants as reads
 use Rattle.lines.specs.declared.command.Fault.the-variants as faults
 use Rattle.lines.specs.declared.command.Name.{Name}
-use Rattle.lines.specs.Text.{carriageReturn, textLength, textOf, words}
+use Rattle.spelling.specs.Text.{carriageReturn, textLength, textOf, words}
 use Rattle.lines.specs.Command.{Command, nameOf, called, commandOf, given, commandIn, meaning, maxLine}
 use Rattle.lines.specs.Command as commands
 use Rattle.lines.specs.Reads.{told, laid}

@@ -10,11 +10,12 @@ use lib.ListN.{length, getD, drop, set, length-map, List·getD-map}
 use lib.Seq.{paste, paste-zero, paste-suc, length-paste, take-all, drop-cons}
 use Rattle.rules.specs.Calls.{Spot}
 use Rattle.lines.specs.declared.read.NextSpot.{NextSpot}
-use Rattle.lines.specs.Text.{words}
-use Rattle.lines.specs.Number.{byteOf, numbers, consed}
+use Rattle.spelling.specs.Text.{words}
+use Rattle.spelling.specs.Number.{byteOf, numbers, consed}
 use Rattle.lines.specs.Command.{handicapOf, spotted, pairs}
 use Rattle.lines.specs.Reads.{packed}
-use Rattle.lines.specs.Steps.{Numbered, Names, Spotting, SpotIs, Spotted, Laying}
+use Rattle.spelling.specs.Steps.{Numbered}
+use Rattle.lines.specs.Steps.{Names, Spotting, SpotIs, Spotted, Laying}
 use Rattle.lines.specs.Laws.Calls.{byte-capped}
 use Rattle.lines.specs.Laws.Handicap.{spot-step, no-spot, no-handicap, handicap-same}
 

@@ -2,7 +2,7 @@
 use mathlib.Core.Path.{sym}
 use Prim.Native.Nat.{ℕ}
 use lib.ListN.{length-replicate}
-use Rattle.lines.specs.Command.{maxLent}
+use Rattle.spelling.specs.Number.{maxLent}
 use Rattle.serving.proofs.empty_history.Statement.{statement}
 use Rattle.serving.proofs.empty_history.Tie as tie
 

@@ -4,7 +4,7 @@ use mathlib.Core.List.{[], _∷_}
 use Rattle.rules.specs.Colours.{at}
 use Rattle.rules.specs.Points.{area, column}
 use Rattle.rules.specs.Game.{freshGame, emptyBoard}
-use Rattle.lines.specs.Text.{ascii}
+use Rattle.spelling.specs.Text.{ascii}
 use Rattle.writing.specs.Figures.{decimal, spaced}
 use Rattle.wording.specs.Replies.{player, sign, startsRow, point, facts, state, points}
 

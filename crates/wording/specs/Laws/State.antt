@@ -20,7 +20,7 @@ use Rattle.game.specs.declared.state.Game.{Game}
 use Rattle.game.specs.declared.asks.Facts.{Facts}
 use Rattle.game.specs.Asks.{noFacts, Told, Asked}
 use Rattle.game.specs.View.{viewOf, TrueState}
-use Rattle.lines.specs.Text.{space}
+use Rattle.spelling.specs.Text.{space}
 use Rattle.writing.specs.Figures.{spaced}
 use Rattle.wording.specs.Replies.{facts, startsRow, point, rowsUpto, state}
 use Rattle.wording.specs.Said.{told}

@@ -1,7 +1,7 @@
 -- Some numbers as text, computed.
 use mathlib.Core.Path.{_≡_, refl}
 use mathlib.Core.List.{[], _∷_, map}
-use Rattle.lines.specs.Text.{ascii}
+use Rattle.spelling.specs.Text.{ascii}
 use Rattle.writing.specs.Figures.{decimal, hexDigit, hex}
 
 pub numbers : map decimal (0 ∷ 9 ∷ 10 ∷ 255 ∷ 655360 ∷ []) ≡ ascii "0" ∷ ascii "9" ∷ ascii "10" ∷ ascii "255" ∷ ascii "655360" ∷ []

@@ -4,7 +4,7 @@ use Prim.Native.Nat.{ℕ, _≤_}
 use native.Mathlib.Omega.{arith}
 use lib.ListN.{length, take}
 use lib.Seq.{length-take-le}
-use Rattle.lines.specs.Text.{textLength, textOf}
+use Rattle.spelling.specs.Text.{textLength, textOf}
 use Rattle.lines.specs.Command.{maxLine}
 use Rattle.lines.specs.Laws.Line.{text-within}
 use Rattle.writing.specs.Laws.Put.{put-same}

@@ -2,7 +2,7 @@
 use mathlib.Core.Path.{_≡_, sym, _∙_}
 use mathlib.Core.Bool.{false}
 use Rattle.rules.specs.Lists.{same}
-use Rattle.lines.specs.Text.{ascii}
+use Rattle.spelling.specs.Text.{ascii}
 use Rattle.lines.specs.Command.{nameOf}
 use borrow.Author.Needs.{needs}
 use Rattle.lines.proofs.read.name_of.Statement.{statement}

@@ -1,6 +1,6 @@
 -- `next_spot`: two numbers more; the words cannot end before them.
 use mathlib.Core.Path.{refl, subst}
-use Rattle.lines.specs.Steps.{Told, Numbered}
+use Rattle.spelling.specs.Steps.{Told, Numbered}
 use Rattle.lines.specs.Laws.Spots.{spotted-both, spotted-odd, spotted-broken, spotted-end, spotted-bad}
 use borrow.Author.Needs.{needs}
 use Rattle.lines.proofs.read.next_spot.Statement.{statement}

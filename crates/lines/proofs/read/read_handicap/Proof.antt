@@ -5,8 +5,8 @@ use Prim.Native.Nat.{_/_}
 use native.Mathlib.Omega.{arith}
 use lib.ListN.{length, drop}
 use Rattle.rules.specs.Calls.{Spot}
-use Rattle.lines.specs.Text.{words}
-use Rattle.lines.specs.Number.{numbers}
+use Rattle.spelling.specs.Text.{words}
+use Rattle.spelling.specs.Number.{numbers}
 use Rattle.lines.specs.Command.{Handicap, handicapOf}
 use Rattle.lines.specs.Steps.{Plainly, Names, Laid}
 use Rattle.lines.specs.declared.command.Fault.the-variants as faults

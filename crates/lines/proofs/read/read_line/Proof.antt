@@ -1,6 +1,6 @@
 -- `read_line`: a line that is not too long is read by its text.
 use mathlib.Core.Path.{sym, ap, _∙_, subst}
-use Rattle.lines.specs.Text.{textOf}
+use Rattle.spelling.specs.Text.{textOf}
 use Rattle.lines.specs.Command.{Command, given}
 use Rattle.lines.specs.Reads.{Reads}
 use Rattle.lines.specs.Steps.{Plainly}

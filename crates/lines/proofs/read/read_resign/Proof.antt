@@ -1,7 +1,8 @@
 -- `read_resign`: one word, and nothing behind it.
 use mathlib.Core.Path.{sym, ap, _∙_, subst}
 use Rattle.lines.specs.Command.{Command, resignOf}
-use Rattle.lines.specs.Steps.{Plainly, part}
+use Rattle.spelling.specs.Steps.{part}
+use Rattle.lines.specs.Steps.{Plainly}
 use Rattle.lines.specs.declared.command.Fault.the-variants as faults
 use Rattle.lines.specs.Laws.Calls.{resign-one, resign-more, wrong-reads}
 use borrow.Author.Needs.{needs}

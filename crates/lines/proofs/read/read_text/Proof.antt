@@ -2,7 +2,8 @@
 use mathlib.Core.Path.{sym, ap, _∙_, subst}
 use Rattle.lines.specs.Command.{Command, commandOf}
 use Rattle.lines.specs.Reads.{Reads}
-use Rattle.lines.specs.Steps.{Plainly, part}
+use Rattle.spelling.specs.Steps.{part}
+use Rattle.lines.specs.Steps.{Plainly}
 use Rattle.lines.specs.declared.command.Fault.the-variants as faults
 use Rattle.lines.specs.Laws.Calls.{wrong-reads}
 use Rattle.lines.specs.Laws.Line.{echo-reads, given-empty, given-hash, given-words, given-called}

@@ -1,0 +1,3 @@
+// Floor 5, the words of a line and the numbers that they write.
+pub mod number;
+pub mod words;
