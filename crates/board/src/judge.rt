@@ -1,6 +1,8 @@
-// The judge: whether a board, of whatever bytes, is a true board. Its time is linear in the number of points.
+// The judge: whether a board, of whatever bytes, is a true board, and how many stones stand on it. Its time is linear in the number of
+// points.
 use crate::goban::Board;
 use crate::slot::slot_good;
+use chains::group::Chain;
 use flooding::edges::row_starts;
 use hashing::zobrist::table;
 use owning::owners::all_found;
@@ -10,10 +12,31 @@ use owning::owners::rows_apart;
 use points::sizes::MAX_AREA;
 use points::sizes::MAX_SIDE;
 use points::sizes::SLOTS;
-ghost use mathlib.Core.Bool.{true};
+use points::stones::BLACK;
+use points::stones::WHITE;
+ghost use Prim.Native.Nat.{_<_, _^_};
+ghost use mathlib.Core.Bool.{true, cond};
 ghost use mathlib.Core.Path.{_≡_};
+ghost use lib.Dec.{eqb};
+ghost use Rattle.rules.specs.Colours.{black, white};
+ghost use Rattle.rules.specs.Game.{stones};
+ghost use Rattle.board.specs.Board.{coloursOf};
 ghost use Rattle.board.specs.True.{TrueBoard};
 ghost use Rattle.board.specs.Judge.{sideGood};
+
+// What the judge found: whether the board is true, and the stones of each colour on a true board.
+pub struct Verdict {
+    pub good: bool,
+    pub black: u32,
+    pub white: u32,
+}
+
+// Of a board that is not true no stones are told.
+const REFUSED: Verdict = Verdict {
+    good: false,
+    black: 0,
+    white: 0,
+};
 
 fn side_good(side: u8) -> bool
     ensures { λ r. ⌜ r ≡ sideGood side ⌝ }
@@ -21,26 +44,41 @@ fn side_good(side: u8) -> bool
     0 < side && side <= (MAX_SIDE as u8)
 }
 
-pub fn judge(board: Board) -> bool
-    ensures sound { λ r. ⌜ (r ≡ true → TrueBoard board) ⌝ }
-    ensures complete { λ r. ⌜ (TrueBoard board → r ≡ true) ⌝ }
+// The stones of this colour in one chain; a free slot has none.
+fn stones_in(chain: Chain, colour: u8) -> u32
+    ensures counted { λ r. ⌜ r ≡ cond (eqb (chain .colour) colour) (chain .count) 0 ⌝ }
+    ensures few { λ r. ⌜ r < 2 ^ 16 ⌝ }
+{
+    if chain.colour == colour {
+        return chain.count as u32;
+    }
+    0
+}
+
+pub fn judged(board: Board) -> Verdict
+    ensures sound { λ r. ⌜ (r .good ≡ true → TrueBoard board) ⌝ }
+    ensures complete { λ r. ⌜ (TrueBoard board → r .good ≡ true) ⌝ }
+    ensures blacks { λ r. ⌜ r .black ≡ cond (r .good) (stones (coloursOf board) black) 0 ⌝ }
+    ensures whites { λ r. ⌜ r .white ≡ cond (r .good) (stones (coloursOf board) white) 0 ⌝ }
 {
     let height = board.height;
     let width = board.width;
     if !side_good(height) {
-        return false;
+        return REFUSED;
     }
     if !side_good(width) {
-        return false;
+        return REFUSED;
     }
     if !all_placed(&board.owners, height, width) {
-        return false;
+        return REFUSED;
     }
     let starts = row_starts(height, width);
     let numbers = table();
     let mut notes = board.owners;
     let mut queue = [0u16; MAX_AREA];
     let mut hash = 0u64;
+    let mut black = 0u32;
+    let mut white = 0u32;
     let mut slot = 0;
     while slot < SLOTS {
         let chain = board.chains[slot];
@@ -56,18 +94,34 @@ pub fn judge(board: Board) -> bool
             slot,
             chain,
         ) {
-            return false;
+            return REFUSED;
         }
+        black += stones_in(chain, BLACK);
+        white += stones_in(chain, WHITE);
         slot += 1;
     }
     if !all_found(&notes, height, width) {
-        return false;
+        return REFUSED;
     }
     if !rows_apart(&board.owners, &starts, &notes, height, width) {
-        return false;
+        return REFUSED;
     }
     if !columns_apart(&board.owners, &notes, height, width) {
-        return false;
+        return REFUSED;
     }
-    board.hash == hash
+    if board.hash != hash {
+        return REFUSED;
+    }
+    Verdict {
+        good: true,
+        black: black,
+        white: white,
+    }
+}
+
+pub fn judge(board: Board) -> bool
+    ensures sound { λ r. ⌜ (r ≡ true → TrueBoard board) ⌝ }
+    ensures complete { λ r. ⌜ (TrueBoard board → r ≡ true) ⌝ }
+{
+    judged(board).good
 }

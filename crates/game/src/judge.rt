@@ -1,53 +1,20 @@
-// The judge of a state, of whatever bytes: the board's judge once, then the numbers. Its sums are in 64 bits, so that none wraps.
+// The judge of a state, of whatever bytes: the board's judge once, which counts the stones too, then the numbers. Its sums are in 64 bits,
+// so that none wraps.
 use crate::state::Game;
 use crate::state::NO_POINT;
 use crate::state::Tally;
-use board::goban::Board;
-use board::judge::judge;
-use chains::group::Chain;
+use board::judge::judged;
 use chains::group::index;
 use points::coord::area;
 use points::sizes::MAX_AREA;
 use points::sizes::MAX_FLAGS;
 use points::sizes::RECORD_BYTES;
-use points::sizes::SLOTS;
 use points::stones::BLACK;
 use points::stones::WHITE;
-ghost use mathlib.Core.Bool.{true, cond};
+ghost use mathlib.Core.Bool.{true};
 ghost use mathlib.Core.Path.{_≡_};
-ghost use lib.Dec.{eqb};
-ghost use Rattle.board.specs.True.{TrueBoard};
 ghost use Rattle.game.specs.View.{TrueState, RoomIn};
-ghost use Rattle.game.specs.Judge.{Decides, Counted, InRange, Summed, Untouched};
-
-// The stones of this colour in one chain; a free slot has none.
-fn stones_in(chain: Chain, colour: u8) -> u32
-    ensures { λ r. ⌜ r ≡ cond (eqb (chain .colour) colour) (chain .count) 0 ⌝ }
-{
-    if chain.colour == colour {
-        return chain.count as u32;
-    }
-    0
-}
-
-fn stones_on(board: Board) -> Tally
-    requires { ⌜ TrueBoard board ⌝ }
-    ensures { λ r. ⌜ Counted board r ⌝ }
-{
-    let mut black = 0u32;
-    let mut white = 0u32;
-    let mut slot = 0;
-    while slot < SLOTS {
-        let chain = board.chains[slot];
-        black += stones_in(chain, BLACK);
-        white += stones_in(chain, WHITE);
-        slot += 1;
-    }
-    Tally {
-        black: black,
-        white: white,
-    }
-}
+ghost use Rattle.game.specs.Judge.{Decides, InRange, Summed, Untouched};
 
 // Flags, passes and handicap in range, and the ko point none or below the area.
 fn in_range(end: usize, flags: u8, passes: u8, ko: u16, handicap: u16) -> bool
@@ -108,15 +75,18 @@ pub fn judge_state(game: Game) -> bool
     ensures sound { λ r. ⌜ (r ≡ true → TrueState game) ⌝ }
     ensures complete { λ r. ⌜ (TrueState game → r ≡ true) ⌝ }
 {
-    let board = game.board;
-    if !judge(board) {
+    let found = judged(game.board);
+    if !found.good {
         return false;
     }
-    let end = area(board.height, board.width);
+    let end = area(game.board.height, game.board.width);
     if !in_range(end, game.flags, game.passes, game.ko, game.handicap) {
         return false;
     }
-    let on = stones_on(board);
+    let on = Tally {
+        black: found.black,
+        white: found.white,
+    };
     let held = game.held;
     let put = game.put;
     if !summed(on, held, put, game.handicap, game.accepted) {
