@@ -3,10 +3,6 @@
 use crate::calls::{Call, Desk, Gives, Judges};
 use crate::judge::Judge;
 use samtrekhu::raw::*;
-use std::thread;
-
-/// A replay of today's library wants more than the run's 256 KiB.
-const REPLAY_STACK: usize = 512 << 10;
 
 /// The judge's word on the board alone, the game, and the game with its history.
 pub struct Verdict {
@@ -40,13 +36,7 @@ impl Verdict {
 
 /// Makes a call, and says what is wrong with what it did.
 pub fn wrong(call: &Call, desk: &mut Desk, verdict: &Verdict, judge: &Judge) -> Option<String> {
-    let answer = match call.gives {
-        Gives::Entries => thread::scope(|scope| {
-            let caller = thread::Builder::new().stack_size(REPLAY_STACK).spawn_scoped(scope, || (call.make)(desk)).expect("a thread");
-            caller.join().expect("the call")
-        }),
-        _ => (call.make)(desk),
-    };
+    let answer = (call.make)(desk);
     if (answer == answers::DAMAGED) == verdict.on(call) {
         return Some(format!("answers {answer} where the judge says {}", verdict.on(call)));
     }

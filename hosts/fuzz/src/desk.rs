@@ -6,15 +6,13 @@ use crate::kinds::Kind;
 use crate::memory::{boxed, bytes_of, Lent, Side};
 use crate::slips::Slip;
 use samtrekhu::raw::{
-    self, Answered, Board, BoardAnswer, ChainAnswer, Facts, Game, Listed, Move, Placed, Replayed, ReplayedInPlace, StonesAnswer, TestAnswer,
+    self, Answered, Board, BoardAnswer, ChainAnswer, Facts, Game, Listed, Move, Placed, Replayed, StonesAnswer, TestAnswer,
 };
 use std::mem::{offset_of, transmute};
 use std::ptr;
 
-/// Every call but a replay runs on the stack of the thread that plays the inputs.
+/// Every call runs on the stack of the thread that plays the inputs.
 pub const STACK: usize = 256 << 10;
-/// A replay takes more than that, so that it has a stack of its own.
-const REPLAY_STACK: usize = 512 << 10;
 
 // Each in a function of its own, so that the states by value of one call do not lie on the stack of another.
 //
@@ -134,10 +132,6 @@ pub struct Asked {
     pub colour: u8,
     pub flags: u8,
 }
-
-/// Pointers may cross to the thread of a replay, which ends before they are used again.
-struct Crossing<T>(T);
-unsafe impl<T> Send for Crossing<T> {}
 
 pub struct Desk {
     history: Lent,
@@ -507,13 +501,8 @@ impl Desk {
             Change::Replay(moves) => {
                 let (list, entries) = self.lend_list(moves);
                 let place = self.place::<Replayed>();
-                let all = Crossing((place, game, pointer, length, list, entries));
-                let back = on_own_stack(move || {
-                    let all = all;
-                    let Crossing((place, game, pointer, length, list, entries)) = all;
-                    Crossing(unsafe { replay(place, game, pointer, length, list, entries) })
-                });
-                let replayed: Box<Replayed> = self.got("replay", back.0)?;
+                let back = unsafe { replay(place, game, pointer, length, list, entries) };
+                let replayed: Box<Replayed> = self.got("replay", back)?;
                 Done { entries: replayed.entries, answer: replayed.answer, game: boxed(&replayed.game), history: Vec::new() }
             }
         };
@@ -542,12 +531,7 @@ impl Desk {
             Change::Resume => raw::samtrekhu_resume_in_place(standing),
             Change::Replay(moves) => {
                 let (list, count) = self.lend_list(moves);
-                let all = Crossing((standing as *mut Game, pointer, length, list, count));
-                let replayed: ReplayedInPlace = on_own_stack(move || {
-                    let all = all;
-                    let Crossing((game, pointer, length, list, count)) = all;
-                    unsafe { raw::samtrekhu_replay_in_place(&mut *game, pointer, length, list, count) }
-                });
+                let replayed = unsafe { raw::samtrekhu_replay_in_place(standing, pointer, length, list, count) };
                 entries = replayed.entries;
                 replayed.answer
             }
@@ -620,13 +604,6 @@ fn slice_bytes<T: Copy>(list: &[T]) -> &[u8] {
 fn yes(name: &str, byte: u8) -> Checked<bool> {
     ensure!(byte < 2, "bool", "{name} gives {byte} for a bool");
     Ok(byte == 1)
-}
-
-fn on_own_stack<T: Send>(call: impl FnOnce() -> T + Send) -> T {
-    std::thread::scope(|scope| {
-        let thread = std::thread::Builder::new().stack_size(REPLAY_STACK).spawn_scoped(scope, call).expect("a thread");
-        thread.join().expect("no panic")
-    })
 }
 
 /// Writes to 300 KiB of its own frame, from the top.
