@@ -15,7 +15,7 @@
 //! # Ok::<(), Refusal>(())
 //! ```
 //!
-//! Every call has room on a thread with 512 KiB of stack. Games share nothing, so that each may live on a thread of its own.
+//! Every call has room on a thread with 256 KiB of stack, as the tests show. Games share nothing, so that each may live on a thread of its own.
 #![warn(missing_docs)]
 #![deny(unsafe_code, unsafe_op_in_unsafe_fn)]
 
