@@ -1,27 +1,24 @@
 // What is asked of a board, by the names of the crate's goban.rs. A query that refuses gives 0 for every value.
 use board::goban::Board;
+use board::judge::judged;
 use chains::group::Chain;
 use chains::group::index;
 use points::answers::ACCEPTED;
+use points::answers::DAMAGED;
 use points::coord::neighbours;
 use points::coord::two_to_1dim;
 use points::sizes::MAX_AREA;
 use points::sizes::SLOTS;
-use points::stones::BLACK;
 use points::stones::EMPTY;
-use points::stones::WHITE;
 use vetting::answers::answer_at;
 use vetting::answers::answer_of;
 ghost use mathlib.Core.Bool.{false, cond};
 ghost use mathlib.Core.Path.{_≡_};
-ghost use lib.Dec.{eqb};
 ghost use lib.ListN.{length, getD};
 ghost use Rattle.rules.specs.Sizes.{maxArea, slots};
 ghost use Rattle.rules.specs.Lists.{any};
-ghost use Rattle.rules.specs.Game.{Player};
 ghost use Rattle.rules.specs.Points as points;
 ghost use Rattle.rules.specs.Chain as rules;
-ghost use Rattle.rules.specs.Game as game;
 ghost use Rattle.chains.specs.Group.{used};
 ghost use Rattle.board.specs.Board.{coloursOf};
 ghost use Rattle.board.specs.True.{TrueBoard};
@@ -107,47 +104,22 @@ pub fn zobrist_hash(board: Board) -> HashAnswer
     }
 }
 
-// The stones of this colour in one chain.
-fn stones_in(chain: Chain, colour: u8) -> usize
-    ensures { λ r. ⌜ r ≡ cond (eqb (chain .colour) colour) (chain .count) 0 ⌝ }
-{
-    if chain.colour == colour {
-        return index(chain.count);
-    }
-    0
-}
-
-// The stones of this colour on the board: those of all its chains.
-fn count_stones(board: Board, colour: u8) -> usize
-    requires { ⌜ TrueBoard board × Player colour ⌝ }
-    ensures { λ r. ⌜ r ≡ game.stones (coloursOf board) colour ⌝ }
-{
-    let mut sum = 0;
-    let mut slot = 0;
-    while slot < SLOTS {
-        sum += stones_in(board.chains[slot], colour);
-        slot += 1;
-    }
-    sum
-}
-
+// The judge counts the stones on its way, so they are not counted again.
 pub fn number_of_stones(board: Board) -> StonesAnswer
     ensures { λ r. ⌜ Answered board false noStones (stonesOf board) r ⌝ }
 {
-    let answer = answer_of(board);
-    if answer != ACCEPTED {
+    let found = judged(board);
+    if !found.good {
         return StonesAnswer {
-            answer: answer,
+            answer: DAMAGED,
             black: 0,
             white: 0,
         };
     }
-    let black = count_stones(board, BLACK);
-    let white = count_stones(board, WHITE);
     StonesAnswer {
         answer: ACCEPTED,
-        black: black,
-        white: white,
+        black: found.black as usize,
+        white: found.white as usize,
     }
 }
 

@@ -1,37 +1,45 @@
--- `queries::goban::number_of_stones`: both colours counted, on a true board.
-use mathlib.Core.Path.{refl}
-use mathlib.Core.Logic.{inl, inr}
+-- `queries::goban::number_of_stones`: what the judge counted, of a true board.
+use mathlib.Core.Path.{_≡_, refl, ap, _∙_}
+use mathlib.Core.Bool.{Bool, true, cond}
+use Prim.Native.Nat.{ℕ}
+use borrow.Author.Tests.{not-true, not-false}
 use borrow.Author.Needs.{needs}
-use Rattle.rules.specs.Game.{Player}
 use Rattle.rules.specs.Answers.{number}
+use Rattle.rules.specs.Laws.Lists.{not-both}
+use Rattle.board.specs.True.{TrueBoard}
 use Rattle.queries.specs.Goban.{noStones, stonesOf}
-use Rattle.vetting.specs.Laws.Answered.{answered-refused, answered-told}
+use Rattle.vetting.specs.Laws.Answered.{answered-told}
 use Rattle.queries.proofs.goban.number_of_stones.Statement.{statement}
 use Rattle.queries.proofs.goban.number_of_stones.Tie as tie
 
-answer-of-requires : tie.Need-answer-of-requires
-answer-of-requires c κs = search needs
+judged-requires : tie.Need-judged-requires
+judged-requires c κs = search needs
+
+refused : (c : tie.Then1) → ¬ TrueBoard (c .before .before .before .args .board)
+refused c t = not-both (c .before .before .judged .ensures .1 .0 t) (not-true _ (c .if1 .taken))
 
 returns : tie.Need-returns
 unfolding number noStones
-returns c = answered-refused noStones _ (c .before .answer-of .ensures) (c .if1 .taken) refl
+returns c = record { damaged = λ _. refl; beyond = λ t _. absurd (refused c t); accepted = λ t _. absurd (refused c t) }
 
-count-stones-requires : tie.Need-count-stones-requires
-unfolding number Player
-count-stones-requires c κs = (c .before .answer-of .ensures .sound (c .if1 .left) .0, inl refl)
+-- a true board: its stones, each number in range
+counted : (good : Bool) (n m : ℕ) → n ≡ cond good m 0 → good ≡ true → n ≡ m
+counted good n m e t = e ∙ ap (λ (b : Bool). cond b m 0) t
 
-count-stones-requires-2 : tie.Need-count-stones-requires-2
-unfolding number Player
-count-stones-requires-2 c κs = (c .before .before .answer-of .ensures .sound (c .before .if1 .left) .0, inr refl)
+cast-t4 : tie.Need-cast-t4
+cast-t4 c = search needs
+
+cast-t5 : tie.Need-cast-t5
+cast-t5 c = search needs
 
 returns-2 : tie.Need-returns-2
 unfolding number stonesOf
 returns-2 c =
-    let start = c .before .before in
-    answered-told noStones _ (start .before .answer-of .ensures .sound (start .if1 .left))
-    (λ i. record { answer = 0; black = c .before .count-stones .ensures i; white = c .count-stones2 .ensures i })
+    let told = c .before .before in
+    let found = told .before .before .judged in
+    let good = not-false _ (told .if1 .left) in
+    answered-told noStones _ (found .ensures .0 good, refl)
+    (λ i. record { answer = 0; black = counted _ _ _ (found .ensures .1 .1 .0) good i; white = counted _ _ _ (found .ensures .1 .1 .1) good i })
 
 pub number-of-stones-spec : {M : Type 1} → statement M
-number-of-stones-spec =
-    tie.close
-    (tie.spec answer-of-requires returns count-stones-requires count-stones-requires-2 returns-2)
+number-of-stones-spec = tie.close (tie.spec judged-requires returns cast-t4 cast-t5 returns-2)
