@@ -1,32 +1,25 @@
 -- What is told of each point of a board by what the board shows, and what filling a buffer asks.
-use mathlib.Core.Bool.{Bool, false, cond, not, _&&_}
+use mathlib.Core.Bool.{Bool, false, cond}
 use mathlib.Core.List.{List}
 use Prim.Native.Nat.{ℕ, _≤_}
 use lib.Dec.{eqb}
-use Rattle.rules.specs.Lists.{any}
 use Rattle.rules.specs.Points.{area}
-use Rattle.rules.specs.Colours.{empty, other, at}
-use Rattle.rules.specs.Tests.{eye}
+use Rattle.rules.specs.Colours.{empty, at}
 use Rattle.rules.specs.Answers as answers
 use Rattle.rules.specs.Answers.{number, _then_}
 use Rattle.rules.specs.Calls.{flagsAnswer}
-use Rattle.legality.specs.Near.{besides, saves, catchesMore, caught}
 use Rattle.legality.specs.Seen.{nearIn}
 use Rattle.listing.specs.Lists.{lengthAnswer}
 use Rattle.game.specs.declared.state.Game.{Game}
 use Rattle.game.specs.View.{TrueState, RoomIn}
 use Rattle.checking.specs.declared.superko.Told.{Told}
 use Rattle.checking.specs.declared.superko.Told.the-variants.{Answer, IfRecorded}
-use Rattle.checking.specs.Told.{atKo, toldOf}
+use Rattle.checking.specs.Told.{toldNear}
 
 -- a stone stands there, or what the tests tell of what stands near
 unfoldable pub toldAt : ℕ → ℕ → List ℕ → List ℕ → List ℕ → ℕ → ℕ → ℕ → ℕ → ℕ → Told
 toldAt h w cs ls ss p own ko records flags =
-    let near = nearIn h w cs ls ss p in
-    cond (eqb (at cs p) empty)
-    (toldOf flags (not (any (saves own) (besides near))) (atKo ko p && not (any catchesMore (besides near))) (eye h w cs own p)
-    (any (caught (other own)) (besides near)) records)
-    (Answer (number answers.PointNotEmpty))
+    cond (eqb (at cs p) empty) (toldNear flags (nearIn h w cs ls ss p) cs h w own ko records p) (Answer (number answers.PointNotEmpty))
 
 -- accepted, whatever the records hold
 abbrev pub settledFree : Told → Bool

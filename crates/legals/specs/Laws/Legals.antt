@@ -33,7 +33,7 @@ use Rattle.game.specs.View.{turnOf, viewOf, TrueState, RoomIn}
 use Rattle.checking.specs.declared.spot.Spot.the-variants.{Stone, Empty}
 use Rattle.checking.specs.declared.superko.Told.{Told}
 use Rattle.checking.specs.declared.superko.Told.the-variants.{Answer, IfRecorded}
-use Rattle.checking.specs.Told.{atKo, toldOf, settled, undecided}
+use Rattle.checking.specs.Told.{atKo, toldOf, toldNear, settled, undecided}
 use Rattle.checking.specs.Spot.{spotOf}
 use Rattle.checking.specs.Asking.{Asking, Repeating}
 use Rattle.checking.specs.Laws.Spot.{spot-of}
@@ -59,18 +59,13 @@ pub told-empty :
     (h w : ℕ) (cs ls ss : List ℕ) (p own ko records flags : ℕ) → at cs p ≡ empty → (n : Near) → n ≡ nearIn h w cs ls ss p → (k : Bool) → k ≡ atKo ko p →
     toldOf flags (not (any (saves own) (besides n))) (k && not (any catchesMore (besides n))) (eye h w cs own p) (any (caught (other own)) (besides n)) records
     ≡ toldAt h w cs ls ss p own ko records flags
-unfolding toldAt
+unfolding toldAt toldNear
 told-empty h w cs ls ss p own ko records flags e n near k at-ko =
     (λ i.
     toldOf flags (not (any (saves own) (besides (near i)))) (at-ko i && not (any catchesMore (besides (near i)))) (eye h w cs own p)
     (any (caught (other own)) (besides (near i))) records)
     ∙ sym
-    (ap
-    (λ (b : Bool).
-    cond b
-    (toldOf flags (not (any (saves own) (besides (nearIn h w cs ls ss p)))) (atKo ko p && not (any catchesMore (besides (nearIn h w cs ls ss p)))) (eye h w cs own p)
-    (any (caught (other own)) (besides (nearIn h w cs ls ss p))) records)
-    (Answer (number answers.PointNotEmpty)))
+    (ap (λ (b : Bool). cond b (toldNear flags (nearIn h w cs ls ss p) cs h w own ko records p) (Answer (number answers.PointNotEmpty)))
     (eq-eqb (at cs p) empty e))
 
 -- ---- A point of a true board
@@ -89,10 +84,7 @@ module _ (g : Game) (is : TrueBoard (g .board)) (flags p : ℕ) (on : p < area (
 
   -- what the tests tell, if the point is empty
   abbrev tests : Told
-  tests =
-      toldOf flags (not (any (saves own) (besides (nearIn h w (s .colours) (s .liberties) (s .stones) p))))
-      (atKo (g .ko) p && not (any catchesMore (besides (nearIn h w (s .colours) (s .liberties) (s .stones) p))))
-      (eye h w (s .colours) own p) (any (caught (other own)) (besides (nearIn h w (s .colours) (s .liberties) (s .stones) p))) (g .records)
+  tests = toldNear flags (nearIn h w (s .colours) (s .liberties) (s .stones) p) (s .colours) h w own (g .ko) (g .records) p
 
   eyed : forbids flags FILLEYE ≡ true → eye h w (s .colours) own p ≡ eye h w cols (turnOf (g .turn)) p
   eyed _ = own-eye g p is _ (read-colours (g .board) is s read) own mover
@@ -112,7 +104,7 @@ module _ (g : Game) (is : TrueBoard (g .board)) (flags p : ℕ) (on : p < area (
     again = recorded bytes (g .records) (resulting (viewOf g) p)
 
     legal-told : number (pointAnswer (viewOf g) bytes flags (row w p) (column w p)) ≡ settled t again
-    unfolding number
+    unfolding number toldNear
     legal-told =
         ⊎-elim
         (λ y.
@@ -132,6 +124,7 @@ module _ (g : Game) (is : TrueBoard (g .board)) (flags p : ℕ) (on : p < area (
     legal-again e = settled-again t again e ∙ ap (λ (n : ℕ). eqb n 0) (sym legal-told)
 
   pub legal-repeating : (n : ℕ) → TrueState g → RoomIn g n → undecided t ≡ true → Repeating g n p
+  unfolding toldNear
   legal-repeating n state room e =
       ⊎-elim
       (λ y.

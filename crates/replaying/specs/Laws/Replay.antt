@@ -23,12 +23,12 @@ use Rattle.replaying.specs.Replay.{entryOf, entriesOf, Replays}
 -- ---- The rules' replay, one entry further
 
 module _ (n : ℕ) (v : rules.Game) (bytes : List ℕ) (e : Entry) (es : List Entry) where
-  replay-on :
+  pub replay-on :
       accepts (entryCall v bytes e .answer) ≡ true →
       replayFrom n v bytes (e ∷ es) ≡ replayFrom (suc n) (entryCall v bytes e .game) (entryCall v bytes e .bytes) es
   replay-on y = rw (y, replayFrom)
 
-  replay-stop :
+  pub replay-stop :
       accepts (entryCall v bytes e .answer) ≡ false →
       replayFrom n v bytes (e ∷ es) ≡ record { entries = n; answer = entryCall v bytes e .answer; game = v; bytes = bytes }
   replay-stop f = rw (f, replayFrom)

@@ -19,7 +19,8 @@ use Rattle.rules.specs.Laws.Calls.{stone-move}
 use Rattle.runs.specs.Runs.{turnBy, turnOver}
 use Rattle.runs.specs.Orders.{firstOf, entryRows, acceptedOf}
 use Rattle.runs.specs.Laws.Lent.{lent-room}
-use Rattle.runs.specs.Laws.Replay.{entry-entered, replay-on, replay-stop}
+use Rattle.replaying.specs.Laws.Replay.{replay-on, replay-stop}
+use Rattle.runs.specs.Laws.Replay.{entry-entered}
 use Rattle.runs.specs.Laws.Orders.{entry-order}
 
 counted-accepts : (t : Bool) (m n : ℕ) → n < cond t (suc m) 0 → t ≡ true

@@ -28,7 +28,7 @@ use Rattle.listing.specs.Lists as listing
 use Rattle.rules.specs.Laws.Answers.{then-refused, then-accepted}
 use Rattle.runs.specs.Orders.{Row, row, firstOf, First, clear, this, later}
 use Rattle.runs.specs.Orders.{newRows, forbiddenRows, pointRows, checkRows, stoneRows, pauseRows, spotRows, handicapRows, boardRows, listRows, lengthRows, questionRows, pictureRows, entryRows, replayRows, acceptedOf}
-use Rattle.runs.specs.Laws.Replay.{replay-on, replay-stop}
+use Rattle.replaying.specs.Laws.Replay.{replay-on, replay-stop}
 
 -- ---- Exactly if
 

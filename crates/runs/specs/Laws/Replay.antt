@@ -15,6 +15,7 @@ use Rattle.rules.specs.Game.{Game, TrueGame, Player}
 use Rattle.rules.specs.Calls.{Result, result, stoneGame, stone, passGame, pass, resignGame, resign, resumeGame, resume, oneIf, Entry, entryCall, Replayed, replayFrom, replay}
 use Rattle.rules.specs.Laws.Lists.{decided}
 use Rattle.rules.specs.Laws.Keep.{pass-true, resign-true, resume-true, stone-keeps}
+use Rattle.replaying.specs.Laws.Replay.{replay-on, replay-stop}
 use Rattle.runs.specs.Runs.{turnOver, putOver}
 use Rattle.runs.specs.Laws.Lent.{Lent, lent-same, lent-on, lent-room, stone-lent}
 
@@ -104,17 +105,6 @@ over-more k m g bytes e es r entered over =
       whites = over .whites ∙ ap₂ (putOver white (take m es)) (entered .turn) (entered .whites);
       lent = lent-on (entered .lent) (over .lent);
     }
-
-module _ (k : ℕ) (g : Game) (bytes : List ℕ) (e : Entry) (es : List Entry) where
-  pub replay-on :
-      accepts (entryCall g bytes e .answer) ≡ true →
-      replayFrom k g bytes (e ∷ es) ≡ replayFrom (suc k) (entryCall g bytes e .game) (entryCall g bytes e .bytes) es
-  replay-on y = rw (y, replayFrom)
-
-  pub replay-stop :
-      accepts (entryCall g bytes e .answer) ≡ false →
-      replayFrom k g bytes (e ∷ es) ≡ record { entries = k; answer = entryCall g bytes e .answer; game = g; bytes = bytes }
-  replay-stop n = rw (n, replayFrom)
 
 replayed-over :
     (es : List Entry) (k : ℕ) (g : Game) (bytes : List ℕ) → TrueGame g → g .records ≤ capacity bytes → (m : ℕ) × Over k g bytes es m (replayFrom k g bytes es)
