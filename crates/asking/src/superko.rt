@@ -8,7 +8,7 @@ use checking::superko::superko_told;
 use game::calls::player_of;
 use game::judge::judge_with;
 use game::state::Game;
-use legality::look::near_at;
+use looking::look::near_at;
 use points::answers::ACCEPTED;
 use points::answers::DAMAGED;
 use points::answers::OFF_BOARD;

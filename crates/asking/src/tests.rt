@@ -3,15 +3,15 @@
 use checking::point::is_ko_point;
 use checking::spot::Spot;
 use checking::spot::spot_at;
+use eyes::eye::is_eye;
 use game::calls::player_of;
 use game::judge::judge_state;
 use game::state::Game;
 use history::packing::colours_of;
-use legality::eye::is_eye;
-use legality::look::near_at;
 use legality::near::is_ko;
 use legality::near::is_suicide;
 use legality::near::will_capture as captures;
+use looking::look::near_at;
 use points::answers::ACCEPTED;
 use points::answers::DAMAGED;
 use points::answers::OFF_BOARD;

@@ -1,7 +1,7 @@
 // Which test refuses a stone: each is asked only where the flags forbid what it tests.
 use crate::superko::Told;
 use crate::superko::superko_told;
-use legality::eye::is_eye;
+use eyes::eye::is_eye;
 use legality::near::Near;
 use legality::near::is_ko;
 use legality::near::is_suicide;

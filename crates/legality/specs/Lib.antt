@@ -1,5 +1,3 @@
--- What the tests of a stone at a point see, and what they say of it.
+-- What the tests of a stone see beside a point, and what they say of it.
 pub mod Near
-pub mod Seen
-pub mod Eye
 pub mod Laws

@@ -8,8 +8,6 @@ use Rattle.rules.specs.Lists.{tabulate}
 use Rattle.rules.specs.Colours.{empty, other, at}
 use Rattle.rules.specs.Points.{neighbours}
 use Rattle.rules.specs.Chain.{size, liberties}
-use Rattle.chains.specs.declared.group.Chain.{Chain}
-use Rattle.sets.specs.Liberties.{number}
 use Rattle.legality.specs.declared.near.Near.{Near}
 use Rattle.legality.specs.declared.near.Beside.{Beside}
 
@@ -32,13 +30,6 @@ nearOf h w cols p =
       liberties = inFour (map (ofStone cols (liberties h w cols)) (neighbours h w p));
       stones = inFour (map (ofStone cols (size h w cols)) (neighbours h w p));
     }
-
--- what is seen of a chain
-unfoldable pub chainSeen : Chain → Beside
-chainSeen c = record { colour = c .colour; liberties = number (c .liberties); stones = c .count }
-
-unfoldable pub nothing : Beside
-nothing = record { colour = empty; liberties = 0; stones = 0 }
 
 -- ---- The places of the struct
 

@@ -1,4 +1,2 @@
-// Floor 4, whether a stone may be laid: the tests of suicide, ko, eye and capture, after the crate's game.rs.
-pub mod eye;
-pub mod look;
+// Floor 4, the tests of suicide, ko and capture, after the crate's game.rs.
 pub mod near;

@@ -8,7 +8,7 @@ use Rattle.rules.specs.Colours.{empty, at}
 use Rattle.rules.specs.Answers as answers
 use Rattle.rules.specs.Answers.{number, _then_}
 use Rattle.rules.specs.Calls.{flagsAnswer}
-use Rattle.legality.specs.Seen.{nearIn}
+use Rattle.looking.specs.Seen.{nearIn}
 use Rattle.listing.specs.Lists.{lengthAnswer}
 use Rattle.game.specs.declared.state.Game.{Game}
 use Rattle.game.specs.View.{TrueState, RoomIn}

@@ -17,7 +17,7 @@ use history::packing::colours_of;
 use history::packing::record_by;
 use history::packing::record_of;
 use laying::lay::lay;
-use legality::look::near_at;
+use looking::look::near_at;
 use points::answers::ACCEPTED;
 use points::answers::DAMAGED;
 use points::answers::GAME_PAUSED;

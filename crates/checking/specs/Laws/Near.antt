@@ -17,12 +17,12 @@ use Rattle.board.specs.Laws.Board.{area-fits, length-colours}
 use Rattle.history.specs.Packing.{onLargest}
 use Rattle.history.specs.Laws.Packing.{at-onLargest}
 use Rattle.legality.specs.declared.near.Near.{Near}
-use Rattle.legality.specs.declared.look.Seen.{Seen}
+use Rattle.looking.specs.declared.look.Seen.{Seen}
 use Rattle.legality.specs.Near.{nearOf, besides, saves, catchesMore, caught}
-use Rattle.legality.specs.Seen.{seenOf, Shows, nearIn}
+use Rattle.looking.specs.Seen.{seenOf, Shows, nearIn}
 use Rattle.legality.specs.Laws.Near.{suicide-near, ko-near, captures-near}
-use Rattle.legality.specs.Laws.Seen.{seen-shows, near-seen}
-use Rattle.legality.specs.Laws.Eye.{eye-same}
+use Rattle.looking.specs.Laws.Seen.{seen-shows, near-seen}
+use Rattle.eyes.specs.Laws.Eye.{eye-same}
 use Rattle.game.specs.declared.state.Game.{Game}
 use Rattle.game.specs.View.{noPoint, turnOf, koOf}
 use Rattle.checking.specs.Told.{atKo}

@@ -24,10 +24,10 @@ use Rattle.listing.specs.Laws.Answers.{length-enough}
 use Rattle.board.specs.Board.{coloursOf}
 use Rattle.board.specs.True.{TrueBoard}
 use Rattle.history.specs.Laws.Packing.{at-onLargest}
-use Rattle.legality.specs.declared.look.Seen.{Seen}
+use Rattle.looking.specs.declared.look.Seen.{Seen}
 use Rattle.legality.specs.declared.near.Near.{Near}
 use Rattle.legality.specs.Near.{besides, saves, catchesMore, caught}
-use Rattle.legality.specs.Seen.{seenOf, nearIn}
+use Rattle.looking.specs.Seen.{seenOf, nearIn}
 use Rattle.game.specs.declared.state.Game.{Game}
 use Rattle.game.specs.View.{turnOf, viewOf, TrueState, RoomIn}
 use Rattle.checking.specs.declared.spot.Spot.the-variants.{Stone, Empty}

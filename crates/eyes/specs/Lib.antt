@@ -1,0 +1,3 @@
+-- What the eye test asks corner by corner.
+pub mod Eye
+pub mod Laws

@@ -1,0 +1,4 @@
+-- What is proved about looking.
+pub mod Lists
+pub mod Table
+pub mod Seen

@@ -1,0 +1,3 @@
+-- What a board shows of its points.
+pub mod Seen
+pub mod Laws

@@ -1,0 +1,55 @@
+-- What a board shows of its points, and what of that stands beside a point.
+use mathlib.Core.List.{List, map}
+use mathlib.Core.Path.{_≡_}
+use Prim.Native.Nat.{ℕ, _≤_, _<_}
+use lib.ListN.{length, getD}
+use Rattle.rules.specs.Sizes.{maxArea}
+use Rattle.rules.specs.Lists.{tabulate}
+use Rattle.rules.specs.Colours.{empty, at}
+use Rattle.rules.specs.Points.{area, neighbours}
+use Rattle.rules.specs.Chain.{size, liberties}
+use Rattle.chains.specs.declared.group.Chain.{Chain}
+use Rattle.sets.specs.Liberties.{number}
+use Rattle.legality.specs.declared.near.Near.{Near}
+use Rattle.legality.specs.declared.near.Beside.{Beside}
+use Rattle.legality.specs.Near.{inFour, ofStone}
+use Rattle.looking.specs.declared.look.Seen.{Seen}
+
+-- what is seen of a chain
+unfoldable pub chainSeen : Chain → Beside
+chainSeen c = record { colour = c .colour; liberties = number (c .liberties); stones = c .count }
+
+unfoldable pub nothing : Beside
+nothing = record { colour = empty; liberties = 0; stones = 0 }
+
+-- at the numbers of the largest board's points
+unfoldable pub seenOf : ℕ → ℕ → List ℕ → Seen
+seenOf h w cols =
+    record {
+      colours = tabulate (at cols) 0 maxArea;
+      liberties = tabulate (ofStone cols (liberties h w cols)) 0 maxArea;
+      stones = tabulate (ofStone cols (size h w cols)) 0 maxArea;
+    }
+
+-- what a chain shows at p: where p is not its first point, its liberties stand at the first
+pub record Counted (c : Chain) (liberties : List ℕ) (p : ℕ) : Type 0 where
+  pub long : length liberties ≡ maxArea
+  pub within : p < maxArea
+  pub first : c .origin < p → getD liberties (c .origin) 0 ≡ number (c .liberties)
+
+-- there is a place for each point of the board
+pub record Shows (h w : ℕ) (colours liberties stones : List ℕ) : Type 0 where
+  pub fits : area h w ≤ maxArea
+  pub coloured : length colours ≡ maxArea
+  pub breathing : length liberties ≡ maxArea
+  pub counted : length stones ≡ maxArea
+
+-- the points beside p in order, as they are shown
+unfoldable pub nearIn : ℕ → ℕ → List ℕ → List ℕ → List ℕ → ℕ → Near
+nearIn h w cs ls ss p =
+    record {
+      count = length (neighbours h w p);
+      colours = inFour (map (λ q. getD cs q 0) (neighbours h w p));
+      liberties = inFour (map (λ q. getD ls q 0) (neighbours h w p));
+      stones = inFour (map (λ q. getD ss q 0) (neighbours h w p));
+    }

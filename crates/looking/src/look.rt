@@ -1,0 +1,159 @@
+// What a board shows of its points and of what stands beside one, read once for the tests. These are numbers alone, so that they can
+// be lent while the board stays where it is.
+use board::goban::Board;
+use chains::group::Chain;
+use chains::group::index;
+use legality::near::Beside;
+use legality::near::Near;
+use points::coord::neighbours;
+use points::sizes::MAX_AREA;
+use points::sizes::SLOTS;
+use points::stones::EMPTY;
+use sets::liberties::number_of_liberties;
+ghost use mathlib.Core.Path.{_≡_};
+ghost use Rattle.board.specs.Board.{coloursOf};
+ghost use Rattle.board.specs.True.{TrueBoard};
+ghost use Rattle.legality.specs.Near.{nearOf};
+ghost use Rattle.looking.specs.Seen.{chainSeen, nothing, seenOf, Counted, Shows, nearIn};
+
+// Of each point the colour, and the liberties and stones of the chain there, 0 at an empty point.
+pub struct Seen {
+    pub colours: [u8; MAX_AREA],
+    pub liberties: [u16; MAX_AREA],
+    pub stones: [u16; MAX_AREA],
+}
+
+// What is seen of a chain.
+fn chain_seen(chain: Chain) -> Beside
+    ensures { λ r. ⌜ r ≡ chainSeen chain ⌝ }
+{
+    let liberties = chain.liberties;
+    let number = number_of_liberties(liberties);
+    Beside {
+        colour: chain.colour,
+        liberties: number as u16,
+        stones: chain.count,
+    }
+}
+
+// What is seen of a chain at one of its points. Its liberties are counted at the first of them, and read there for the others.
+fn stone_seen(chain: Chain, liberties: &[u16; MAX_AREA], point: usize) -> Beside
+    requires { ⌜ Counted chain (now liberties) point ⌝ }
+    ensures { λ r. ⌜ r ≡ chainSeen chain ⌝ }
+{
+    let origin = index(chain.origin);
+    if origin < point {
+        return Beside {
+            colour: chain.colour,
+            liberties: liberties[origin],
+            stones: chain.count,
+        };
+    }
+    chain_seen(chain)
+}
+
+// What is seen where no chain stands.
+fn nothing_seen() -> Beside
+    ensures { λ r. ⌜ r ≡ nothing ⌝ }
+{
+    Beside {
+        colour: EMPTY,
+        liberties: 0,
+        stones: 0,
+    }
+}
+
+// What the points of a true board show, each read once; beyond the board nothing stands.
+pub fn seen_of(board: Board) -> Seen
+    requires { ⌜ TrueBoard board ⌝ }
+    ensures { λ r. ⌜ r ≡ seenOf (board .height) (board .width) (coloursOf board) ⌝ }
+{
+    let mut colours = [EMPTY; MAX_AREA];
+    let mut liberties = [0u16; MAX_AREA];
+    let mut stones = [0u16; MAX_AREA];
+    let mut point = 0;
+    while point < MAX_AREA {
+        let owner = index(board.owners[point]);
+        let mut seen = nothing_seen();
+        if owner < SLOTS {
+            let chain = stone_seen(board.chains[owner], &liberties, point);
+            seen = chain;
+        }
+        colours[point] = seen.colour;
+        liberties[point] = seen.liberties;
+        stones[point] = seen.stones;
+        point += 1;
+    }
+    Seen {
+        colours: colours,
+        liberties: liberties,
+        stones: stones,
+    }
+}
+
+// What stands beside a point, by what is shown.
+pub fn near(
+    colours: &[u8; MAX_AREA],
+    liberties: &[u16; MAX_AREA],
+    stones: &[u16; MAX_AREA],
+    height: u8,
+    width: u8,
+    point: usize,
+) -> Near
+    requires { ⌜ Shows height width (now colours) (now liberties) (now stones) ⌝ }
+    ensures { λ r. ⌜ r ≡ nearIn height width (now (colours .entry)) (now (liberties .entry)) (now (stones .entry)) point ⌝ }
+{
+    let around = neighbours(height, width, point);
+    let beside = around.points;
+    let count = around.count;
+    let mut near_colours = [0u8; 4];
+    let mut near_liberties = [0u16; 4];
+    let mut near_stones = [0u16; 4];
+    let mut i = 0;
+    while i < count {
+        let q = index(beside[i]);
+        near_colours[i] = colours[q];
+        near_liberties[i] = liberties[q];
+        near_stones[i] = stones[q];
+        i += 1;
+    }
+    Near {
+        count: count,
+        colours: near_colours,
+        liberties: near_liberties,
+        stones: near_stones,
+    }
+}
+
+// What stands beside a point of a true board. No other point is read.
+pub fn near_at(board: Board, point: usize) -> Near
+    requires { ⌜ TrueBoard board ⌝ }
+    ensures { λ r. ⌜ r ≡ nearOf (board .height) (board .width) (coloursOf board) point ⌝ }
+{
+    let around = neighbours(board.height, board.width, point);
+    let beside = around.points;
+    let count = around.count;
+    let mut colours = [0u8; 4];
+    let mut liberties = [0u16; 4];
+    let mut stones = [0u16; 4];
+    let mut side = 0;
+    while side < count {
+        let q = index(beside[side]);
+        let owner = index(board.owners[q]);
+        let mut seen = nothing_seen();
+        if owner < SLOTS {
+            let chain = chain_seen(board.chains[owner]);
+            seen = chain;
+        }
+        colours[side] = seen.colour;
+        liberties[side] = seen.liberties;
+        stones[side] = seen.stones;
+        side += 1;
+    }
+    Near {
+        count: count,
+        colours: colours,
+        liberties: liberties,
+        stones: stones,
+    }
+}
