@@ -12,7 +12,8 @@ use Rattle.lines.specs.Command as commands
 use Rattle.objecting.specs.Faults.{fault}
 use Rattle.writing.specs.Put.{Put}
 use Rattle.answering.specs.declared.desk.Replied.{Replied}
-use Rattle.answering.specs.Reply.{Reply, Stays, Starts, Calls, Lays, Checks, Lists, States, Draws, Says}
+use Rattle.telling.specs.Reply.{Reply, Stays, Starts, Calls, Lays, Checks}
+use Rattle.acting.specs.Reply.{Lists, States, Draws, Says}
 
 abbrev pub Does : List ℕ → Game → List ℕ → Reply → Command → Type 0
 Does line g bytes a commands.Echo = Says (textOf line) g bytes a

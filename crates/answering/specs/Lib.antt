@@ -1,5 +1,3 @@
 -- What a line does at the desk, and the whole of its reply. Laws are apart from the definitions.
-pub mod Reply
 pub mod Does
-pub mod Acts
 pub mod Laws

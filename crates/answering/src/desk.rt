@@ -1,5 +1,5 @@
 // A line is answered: it is read, what it says is done, and the reply is ended with a line feed.
-use crate::act::act;
+use acting::act::act;
 use game::state::Game;
 use lines::command::MAX_LINE;
 use lines::command::MAX_SPOTS;

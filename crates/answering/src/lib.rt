@@ -1,3 +1,2 @@
 // Floor 5, the desk: one line in, what it does to the game, and its whole reply.
-pub mod act;
 pub mod desk;

@@ -25,9 +25,10 @@ use Rattle.lines.specs.Laws.Few.{spotsIn, maxSpots}
 use Rattle.lines.specs.Laws.Capped.{new-capped, new-game-capped, check-capped, stone-capped, capped, handicap-capped, flags-capped, flags-same}
 use Rattle.writing.specs.Figures.{decimal}
 use Rattle.wording.specs.Replies.{points}
-use Rattle.answering.specs.Reply.{Reply, TrueDesk, Calls, listed}
+use Rattle.telling.specs.Reply.{Reply, TrueDesk, Calls}
+use Rattle.acting.specs.Reply.{listed}
 use Rattle.answering.specs.Does.{Does}
-use Rattle.answering.specs.Acts.{Acts, Ready}
+use Rattle.acting.specs.Acts.{Acts, Ready}
 
 -- ---- The same call
 

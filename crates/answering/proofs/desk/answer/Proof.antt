@@ -9,8 +9,8 @@ use Rattle.lines.specs.Command.{meaning}
 use Rattle.lines.specs.Reads.{told}
 use Rattle.lines.specs.Laws.Few.{maxSpots, meaning-few}
 use Rattle.writing.specs.Laws.Put.{put-then}
-use Rattle.answering.specs.Reply.{Reply}
-use Rattle.answering.specs.Acts.{Acts, Ready}
+use Rattle.telling.specs.Reply.{Reply}
+use Rattle.acting.specs.Acts.{Acts, Ready}
 use Rattle.answering.specs.Laws.Does.{ready-told, does-told}
 use borrow.Author.Needs.{needs}
 use Rattle.answering.proofs.desk.answer.Statement.{statement}
