@@ -2,20 +2,11 @@
 use mathlib.Core.Bool.{Bool, true, false}
 use mathlib.Core.Path.{_≡_}
 use Rattle.rules.specs.Answers.{Accepted, Damaged, OffBoard, number}
-use Rattle.board.specs.Board.{newBoard}
 use Rattle.queries.specs.declared.goban.TestAnswer.{TestAnswer}
 use Rattle.queries.specs.Goban.{noTest}
-use Rattle.game.specs.declared.state.Game.{Game}
-use Rattle.game.specs.View.{TrueState}
-use Rattle.asking.specs.declared.shown.BoardAnswer.{BoardAnswer}
 
 -- whether the point is off the board is asked of a true state only; refused, a test says no
 pub record Tested (is : Type 0) (off holds : Bool) (r : TestAnswer) : Type 0 where
   pub damaged : ¬ is → r ≡ noTest (number Damaged)
   pub beyond : is → off ≡ true → r ≡ noTest (number OffBoard)
   pub told : is → off ≡ false → r ≡ record { answer = number Accepted; holds = holds }
-
--- the board, or an empty one of one point
-pub record Shown (g : Game) (r : BoardAnswer) : Type 0 where
-  pub damaged : ¬ TrueState g → r ≡ record { answer = number Damaged; board = newBoard 1 1 }
-  pub told : TrueState g → r ≡ record { answer = number Accepted; board = g .board }

@@ -1,4 +1,3 @@
-// Floor 4, what is asked of a game's points and of its board, after the crate's game.rs.
-pub mod shown;
+// Floor 4, what is asked of a game's points, after the crate's game.rs.
 pub mod superko;
 pub mod tests;

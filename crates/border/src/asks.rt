@@ -1,7 +1,4 @@
 // What is asked of a game by value.
-use asking::shown::BoardAnswer;
-use asking::shown::board_of;
-use asking::shown::empty_points;
 use asking::superko::is_superko_at;
 use asking::tests::is_eye_at;
 use asking::tests::is_ko_at;
@@ -16,6 +13,9 @@ use legals::list::legals;
 use legals::list::legals_by;
 use listing::list::Listed;
 use queries::goban::TestAnswer;
+use showing::shown::BoardAnswer;
+use showing::shown::board_of;
+use showing::shown::empty_points;
 ghost use mathlib.Core.Path.{_≡_};
 ghost use mathlib.Core.Bool.{true};
 ghost use lib.ListN.{length};
@@ -28,7 +28,8 @@ ghost use Rattle.game.specs.View.{viewOf, TrueState, RoomIn};
 ghost use Rattle.checking.specs.Promise.{Checked, Filled};
 ghost use Rattle.asking.specs.declared.tests.Test.the-variants as test;
 ghost use Rattle.asking.specs.Tests.{testedAt, superkoAt};
-ghost use Rattle.asking.specs.Promise.{Shown, Tested};
+ghost use Rattle.asking.specs.Promise.{Tested};
+ghost use Rattle.showing.specs.Promise.{Shown};
 
 #[no_mangle]
 pub extern "C" fn samtrekhu_check_point_by(

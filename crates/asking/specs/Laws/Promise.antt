@@ -1,30 +1,10 @@
--- Laws of Promise: the board that is shown, and that the promises leave nothing free: two results that meet one are equal.
+-- Laws of Promise: it leaves nothing free: two results that meet it are equal.
 use mathlib.Core.Bool.{Bool}
 use mathlib.Core.Logic.{_⊎_, ⊎-elim}
-use mathlib.Core.Path.{_≡_, refl, sym, _∙_}
-use Rattle.rules.specs.Answers.{number}
+use mathlib.Core.Path.{_≡_, sym, _∙_}
 use Rattle.rules.specs.Laws.Lists.{decided}
-use Rattle.board.specs.declared.goban.Board.{Board}
-use Rattle.board.specs.Board.{newBoard}
 use Rattle.queries.specs.declared.goban.TestAnswer.{TestAnswer}
-use Rattle.game.specs.declared.state.Game.{Game}
-use Rattle.game.specs.View.{TrueState}
-use Rattle.checking.specs.Laws.State.{state-or-not}
-use Rattle.asking.specs.declared.shown.BoardAnswer.{BoardAnswer}
-use Rattle.asking.specs.Promise.{Tested, Shown}
-
--- ---- The board
-
-module _ (g : Game) where
-  pub shown-damaged : ¬ TrueState g → (b : Board) → b ≡ newBoard 1 1 → Shown g (record { answer = 3; board = b })
-  unfolding number
-  shown-damaged n b e = record { damaged = λ _. λ i. record { answer = 3; board = e i }; told = λ t. absurd (n t) }
-
-  pub shown-told : TrueState g → Shown g (record { answer = 0; board = g .board })
-  unfolding number
-  shown-told t = record { damaged = λ n. absurd (n t); told = λ _. refl }
-
--- ---- Two results
+use Rattle.asking.specs.Promise.{Tested}
 
 pub tested-unique : {is : Type 0} {off holds : Bool} {r r′ : TestAnswer} → is ⊎ ¬ is → Tested is off holds r → Tested is off holds r′ → r ≡ r′
 tested-unique {off = off} way p q =
@@ -32,6 +12,3 @@ tested-unique {off = off} way p q =
     (λ t. ⊎-elim (λ e. p .beyond t e ∙ sym (q .beyond t e)) (λ e. p .told t e ∙ sym (q .told t e)) (decided off))
     (λ n. p .damaged n ∙ sym (q .damaged n))
     way
-
-pub shown-unique : (g : Game) {r r′ : BoardAnswer} → Shown g r → Shown g r′ → r ≡ r′
-shown-unique g p q = ⊎-elim (λ t. p .told t ∙ sym (q .told t)) (λ n. p .damaged n ∙ sym (q .damaged n)) (state-or-not g)

@@ -21,10 +21,11 @@ use Rattle.placing.specs.Placing.{Outcome}
 use Rattle.game.specs.declared.state.Game.{Game}
 use Rattle.game.specs.View.{viewOf, TrueState}
 use Rattle.checking.specs.Promise.{Filled}
-use Rattle.asking.specs.declared.shown.BoardAnswer.{BoardAnswer}
 use Rattle.asking.specs.declared.tests.Test.{Test}
 use Rattle.asking.specs.Tests.{testedAt, superkoAt}
-use Rattle.asking.specs.Promise.{Tested, Shown}
+use Rattle.asking.specs.Promise.{Tested}
+use Rattle.showing.specs.declared.shown.BoardAnswer.{BoardAnswer}
+use Rattle.showing.specs.Promise.{Shown}
 use Rattle.runs.specs.Runs.{Desk, Sound}
 use Rattle.runs.specs.Alike.{Alike, AlikeDesks, placementOf, AlikeBoards}
 use Rattle.runs.specs.Alike as alike

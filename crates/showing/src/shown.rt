@@ -14,7 +14,7 @@ ghost use Rattle.viewing.specs.declared.shows.Question.the-variants.{Coloured};
 ghost use Rattle.listing.specs.Lists.{listAnswer, listed};
 ghost use Rattle.game.specs.View.{TrueState};
 ghost use Rattle.checking.specs.Promise.{Filled};
-ghost use Rattle.asking.specs.Promise.{Shown};
+ghost use Rattle.showing.specs.Promise.{Shown};
 
 // The points where a stone can be laid if no rule forbids it, the crate's `pseudo_legals`.
 pub fn empty_points(game: Game, buffer: &mut [u16]) -> Listed

@@ -4,8 +4,8 @@ use Rattle.rules.specs.Laws.Lists.{not-both}
 use Rattle.listing.specs.Lists.{Lists}
 use Rattle.checking.specs.Laws.Promise.{filled-damaged, filled-told}
 use borrow.Author.Needs.{needs}
-use Rattle.asking.proofs.shown.empty_points.Statement.{statement}
-use Rattle.asking.proofs.shown.empty_points.Tie as tie
+use Rattle.showing.proofs.shown.empty_points.Statement.{statement}
+use Rattle.showing.proofs.shown.empty_points.Tie as tie
 
 judge-state-requires : tie.Need-judge-state-requires
 judge-state-requires c κs = search needs

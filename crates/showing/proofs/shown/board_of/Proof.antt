@@ -1,10 +1,10 @@
 -- `board_of`: the judge says which of the two it is.
 use borrow.Author.Tests.{not-true, not-false}
 use Rattle.rules.specs.Laws.Lists.{not-both}
-use Rattle.asking.specs.Laws.Promise.{shown-damaged, shown-told}
+use Rattle.showing.specs.Laws.Promise.{shown-damaged, shown-told}
 use borrow.Author.Needs.{needs}
-use Rattle.asking.proofs.shown.board_of.Statement.{statement}
-use Rattle.asking.proofs.shown.board_of.Tie as tie
+use Rattle.showing.proofs.shown.board_of.Statement.{statement}
+use Rattle.showing.proofs.shown.board_of.Tie as tie
 
 judge-state-requires : tie.Need-judge-state-requires
 judge-state-requires c κs = search needs
