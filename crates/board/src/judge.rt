@@ -1,7 +1,7 @@
 // The judge: whether a board, of whatever bytes, is a true board, and how many stones stand on it. Its time is linear in the number of
 // points.
 use crate::goban::Board;
-use crate::slot::slot_good;
+use crate::slot::chain_good;
 use chains::group::Chain;
 use flooding::edges::row_starts;
 use hashing::zobrist::table;
@@ -44,7 +44,7 @@ fn side_good(side: u8) -> bool
     0 < side && side <= (MAX_SIDE as u8)
 }
 
-// The stones of this colour in one chain; a free slot has none.
+// The stones of this colour in one chain.
 fn stones_in(chain: Chain, colour: u8) -> u32
     ensures counted { λ r. ⌜ r ≡ cond (eqb (chain .colour) colour) (chain .count) 0 ⌝ }
     ensures few { λ r. ⌜ r < 2 ^ 16 ⌝ }
@@ -55,6 +55,7 @@ fn stones_in(chain: Chain, colour: u8) -> u32
     0
 }
 
+// Most slots are free, and of a free one the count alone is read.
 pub fn judged(board: Board) -> Verdict
     ensures sound { λ r. ⌜ (r .good ≡ true → TrueBoard board) ⌝ }
     ensures complete { λ r. ⌜ (TrueBoard board → r .good ≡ true) ⌝ }
@@ -81,23 +82,25 @@ pub fn judged(board: Board) -> Verdict
     let mut white = 0u32;
     let mut slot = 0;
     while slot < SLOTS {
-        let chain = board.chains[slot];
-        if !slot_good(
-            &board.next,
-            &numbers,
-            &starts,
-            &mut notes,
-            &mut queue,
-            &mut hash,
-            height,
-            width,
-            slot,
-            chain,
-        ) {
-            return REFUSED;
+        if board.chains[slot].count != 0 {
+            let chain = board.chains[slot];
+            if !chain_good(
+                &board.next,
+                &numbers,
+                &starts,
+                &mut notes,
+                &mut queue,
+                &mut hash,
+                height,
+                width,
+                slot,
+                chain,
+            ) {
+                return REFUSED;
+            }
+            black += stones_in(chain, BLACK);
+            white += stones_in(chain, WHITE);
         }
-        black += stones_in(chain, BLACK);
-        white += stones_in(chain, WHITE);
         slot += 1;
     }
     if !all_found(&notes, height, width) {

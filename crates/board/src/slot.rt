@@ -1,4 +1,4 @@
-// One slot of the chain table, judged: its colour, its stones and how many they are, its ring of links and its liberties.
+// The chain of one slot, judged: its colour, its stones and how many they are, its ring of links and its liberties.
 use chains::group::Chain;
 use chains::group::index;
 use flooding::flood::flood;
@@ -10,12 +10,11 @@ use points::sizes::HASH_ENTRIES;
 use points::sizes::MAX_AREA;
 use points::stones::BLACK;
 use points::stones::WHITE;
-ghost use mathlib.Core.Bool.{true, _&&_};
+ghost use mathlib.Core.Bool.{true};
 ghost use mathlib.Core.Path.{_≡_};
-ghost use Rattle.chains.specs.Group.{used};
 ghost use Rattle.owning.specs.Owners.{ownerIn};
 ghost use Rattle.flooding.specs.Flood.{found, Passed};
-ghost use Rattle.board.specs.Judge.{player, chainGood, slotGood, Lent};
+ghost use Rattle.board.specs.Judge.{player, chainGood, Lent};
 
 fn is_player(colour: u8) -> bool
     ensures { λ r. ⌜ r ≡ player colour ⌝ }
@@ -23,7 +22,7 @@ fn is_player(colour: u8) -> bool
     colour == BLACK || colour == WHITE
 }
 
-fn chain_good(
+pub fn chain_good(
     next: &[u16; MAX_AREA],
     table: &[u64; HASH_ENTRIES],
     starts: &[bool; MAX_AREA + 1],
@@ -69,38 +68,4 @@ fn chain_good(
     }
     let kept = chain.liberties;
     liberties_good(kept, seen)
-}
-
-// A slot whose count is 0 holds no chain, and nothing else is asked.
-pub fn slot_good(
-    next: &[u16; MAX_AREA],
-    table: &[u64; HASH_ENTRIES],
-    starts: &[bool; MAX_AREA + 1],
-    notes: &mut [u16; MAX_AREA],
-    queue: &mut [u16; MAX_AREA],
-    hash: &mut u64,
-    height: u8,
-    width: u8,
-    slot: usize,
-    chain: Chain,
-) -> bool
-    requires { ⌜ Lent height width slot (now next) (now table) (now starts) (now notes) (now queue) (now hash) ⌝ }
-    ensures judged { λ r. ⌜ r ≡ slotGood height width (ownerIn (now (notes .entry))) (now (next .entry)) slot chain ⌝ }
-    ensures passed { λ r. ⌜ (r ≡ true → Passed height width (λ p. used chain && found height width (ownerIn (now (notes .entry))) slot (chain .origin) p) (chain .colour) (now (notes .entry)) (now (notes .exit)) (now (queue .exit)) (now (hash .exit))) ⌝ }
-{
-    if chain.count == 0 {
-        return true;
-    }
-    chain_good(
-        next,
-        table,
-        starts,
-        notes,
-        queue,
-        hash,
-        height,
-        width,
-        slot,
-        chain,
-    )
 }

@@ -1,7 +1,7 @@
--- Laws of one slot judged: a flood from the origin of its chain makes the chain's tests, and owners that agree on the slot and on the
--- empty points judge it alike.
+-- Laws of one slot judged: a flood from the origin of its chain makes the chain's tests, owners that agree on the slot and on the empty
+-- points judge the chain alike, and a free slot is good.
 use mathlib.Core.Path.{_≡_, sym, ap, ap₂, _∙_, subst, fun-ext}
-use mathlib.Core.Bool.{Bool, false, not, _&&_, _||_}
+use mathlib.Core.Bool.{Bool, true, false, _&&_, _||_}
 use mathlib.Core.List.{List, [], _∷_}
 use Prim.Native.Nat.{ℕ, _-_, _≤_, _<_}
 use native.Mathlib.Omega.{arith}
@@ -55,21 +55,30 @@ module _ {h w s sum : ℕ} {next table notes queue : List ℕ} {starts : List Bo
     unfolding libertiesGood
     chain-liberties = ap (λ (f : ℕ → Bool). same (chain .liberties) (setOf f) && ltb 0 (number (chain .liberties))) (sym (fun-ext (here .shored)))
 
--- owners that agree on the slot and on the empty points judge it alike
+-- owners that agree on the slot and on the empty points judge its chain alike
 module _ (h w : ℕ) where
-  pub slot-same :
+  pub chain-same :
       (own own′ : ℕ → ℕ) (next : List ℕ) (s : ℕ) (c : Chain) → ((p : ℕ) → eqb (own p) s ≡ eqb (own′ p) s)
-      → ((q : ℕ) → eqb (own q) slots ≡ eqb (own′ q) slots) → slotGood h w own next s c ≡ slotGood h w own′ next s c
-  unfolding slotGood chainGood counted libertiesGood shore found ring onRing
-  slot-same own own′ next s c ours vacant = ap₂ judge (fun-ext ours) (fun-ext vacant)
+      → ((q : ℕ) → eqb (own q) slots ≡ eqb (own′ q) slots) → chainGood h w own next s c ≡ chainGood h w own′ next s c
+  unfolding chainGood counted libertiesGood shore found ring onRing
+  chain-same own own′ next s c ours vacant = ap₂ judge (fun-ext ours) (fun-ext vacant)
     where
       judge : (ℕ → Bool) → (ℕ → Bool) → Bool
       judge mine none =
           let f : ℕ → Bool = λ p. marked (flooded (neighbours h w) mine (area h w) (c .origin ∷ [])) p in
-          not (used c)
-          || (player (c .colour)
+          player (c .colour)
           && (mine (c .origin)
           && (eqb (count f (below (area h w))) (c .count)
           && ((all (λ k. mine (stepped next (c .origin) k) && (eqb k 0 || ltb (c .origin) (stepped next (c .origin) k))) (below (c .count))
           && (eqb (stepped next (c .origin) (c .count - 1)) (c .last) && eqb (stepped next (c .origin) (c .count)) (c .origin)))
-          && (same (c .liberties) (setOf (λ q. none q && any f (neighbours h w q))) && ltb 0 (number (c .liberties)))))))
+          && (same (c .liberties) (setOf (λ q. none q && any f (neighbours h w q))) && ltb 0 (number (c .liberties))))))
+
+-- a free slot is good, and a used one if its chain is
+module _ (h w : ℕ) (own : ℕ → ℕ) (next : List ℕ) (s : ℕ) (c : Chain) where
+  pub free-good : used c ≡ false → slotGood h w own next s c ≡ true
+  unfolding slotGood
+  free-good e = rw e
+
+  pub used-good : used c ≡ true → slotGood h w own next s c ≡ chainGood h w own next s c
+  unfolding slotGood
+  used-good e = rw e

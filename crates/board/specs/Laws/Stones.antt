@@ -14,8 +14,8 @@ use Rattle.rules.specs.Lists.{count, below}
 use Rattle.rules.specs.Points.{area}
 use Rattle.rules.specs.Chain.{chains}
 use Rattle.rules.specs.Game.{Player, stones}
-use Rattle.rules.specs.Laws.Lists.{decided, equal-or-not, length-below, getD-default, and-left, and-right, not-both, not-yes}
-use Rattle.rules.specs.Laws.Counting.{count-most, count-none, count-or, count-same}
+use Rattle.rules.specs.Laws.Lists.{decided, equal-or-not, getD-default, and-left, and-right, not-both, not-yes}
+use Rattle.rules.specs.Laws.Counting.{count-none, count-or, count-same}
 use Rattle.rules.specs.Laws.Colours.{player-stone}
 use Rattle.rules.specs.Laws.Stones.{count-tabulate}
 use Rattle.chains.specs.declared.group.Chain.{Chain}
@@ -55,12 +55,6 @@ unfolding usedBelow
 usedBelow-all b is = sym (chains-used b is)
 
 -- ---- The stones
-
-pub stonesBelow-few : (b : Board) (c n : ℕ) → stonesBelow b c n ≤ area (b .height) (b .width)
-unfolding stonesBelow
-stonesBelow-few b c n =
-    let points = below (area (b .height) (b .width)) in
-    omega (arith, count-most (λ p. eqb c (colourAt b p) && ltb (owner b p) n) points, length-below (area (b .height) (b .width)))
 
 pub stonesBelow-none : (b : Board) (c : ℕ) → stonesBelow b c 0 ≡ 0
 unfolding stonesBelow

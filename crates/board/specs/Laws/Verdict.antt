@@ -17,7 +17,7 @@ use Rattle.rules.specs.Lists.{all, below, tabulate}
 use Rattle.rules.specs.Points.{area}
 use Rattle.rules.specs.Colours.{empty}
 use Rattle.rules.specs.Hash.{entry, hash}
-use Rattle.rules.specs.Laws.Lists.{and-left, and-right, all-each, mem-below, decided, equal-or-not, getD-within, length-tabulate, getD-tabulate-zero, getD-replicate-same}
+use Rattle.rules.specs.Laws.Lists.{and-left, and-right, all-each, mem-below, not-yes, decided, equal-or-not, getD-within, length-tabulate, getD-tabulate-zero, getD-replicate-same}
 use Rattle.rules.specs.Laws.Colours.{player-stone}
 use Rattle.chains.specs.declared.group.Chain.{Chain}
 use Rattle.chains.specs.Group.{used}
@@ -26,12 +26,12 @@ use Rattle.board.specs.Board.{owner, chainIn, colourAt}
 use Rattle.board.specs.True.{Shaped}
 use Rattle.owning.specs.Owners.{ownerIn, placed, rowApart, columnApart, RowStarts}
 use Rattle.flooding.specs.Flood.{found, hashOf, Passed}
-use Rattle.board.specs.Judge.{sideGood, slotGood, foundBelow, noted, judged, Lent}
+use Rattle.board.specs.Judge.{sideGood, chainGood, slotGood, foundBelow, noted, judged, Lent}
 use Rattle.owning.specs.Laws.Lists.{all-below, all-fails-below, and-fails, then-fails}
 use Rattle.board.specs.Laws.NewBoard.{hash-none}
 use Rattle.flooding.specs.Laws.Found.{found-not, found-same}
-use Rattle.board.specs.Laws.Slot.{slot-same}
-use Rattle.board.specs.Laws.Tests.{placed-says, slot-says}
+use Rattle.board.specs.Laws.Slot.{chain-same, free-good, used-good}
+use Rattle.board.specs.Laws.Tests.{used-says, placed-says, slot-says}
 
 -- ---- Sizes
 
@@ -188,9 +188,14 @@ module _ (b : Board) (shape : Shaped b) (on : all (placed (b .height) (b .width)
         ⊎-elim (λ t. let (_, _, above) = noted-other p t in let e = is .notes-are p in absurd (omega arith))
         (λ f. let e = is .notes-are p ∙ noted-owner p f in placed-on p (omega arith)) (decided (foundBelow b slot p))
 
-    -- so the slot is judged by the notes as by the owners
-    pub judging-slot : (c : Chain) → slotGood (b .height) (b .width) (ownerIn notes) (b .next) slot c ≡ slotGood (b .height) (b .width) (owner b) (b .next) slot c
-    judging-slot c = slot-same (b .height) (b .width) (ownerIn notes) (owner b) (b .next) slot c ours vacant
+    -- so a used slot is judged as its chain is by the notes
+    pub judging-chain :
+        {chain : Chain} → chain ≡ chainIn b slot → chain .count ≢ 0
+        → slotGood (b .height) (b .width) (owner b) (b .next) slot (chainIn b slot) ≡ chainGood (b .height) (b .width) (ownerIn notes) (b .next) slot chain
+    judging-chain {chain} at some =
+        ap (slotGood (b .height) (b .width) (owner b) (b .next) slot) (sym at)
+        ∙ used-good (b .height) (b .width) (owner b) (b .next) slot chain (used-says chain .1 some)
+        ∙ sym (chain-same (b .height) (b .width) (ownerIn notes) (owner b) (b .next) slot chain ours vacant)
 
     pub judging-lent :
         {table : List ℕ} {starts : List Bool} → table ≡ tabulate entry 0 hashEntries → RowStarts (b .height) (b .width) starts
@@ -207,7 +212,8 @@ module _ (b : Board) (shape : Shaped b) (on : all (placed (b .height) (b .width)
       standing = standing;
     }
 
-    pub judging-next :
+    -- one slot more
+    judging-next :
         {notes′ queue′ : List ℕ} {sum′ : ℕ} {chain : Chain} → chain ≡ chainIn b slot
         → slotGood (b .height) (b .width) (owner b) (b .next) slot (chainIn b slot) ≡ true
         → Passed (b .height) (b .width) (λ p. used chain && found (b .height) (b .width) (ownerIn notes) slot (chain .origin) p) (chain .colour) notes notes′ queue′ sum′
@@ -226,6 +232,20 @@ module _ (b : Board) (shape : Shaped b) (on : all (placed (b .height) (b .width)
           ∙ ap (cond (used (chainIn b slot) && found (b .height) (b .width) (owner b) slot (chainIn b slot .origin) p) (slots + chainIn b slot .colour)) (is .notes-are p)
           ∙ noted-next slot p;
     }
+
+    -- of a free one nothing is painted
+    pub judging-free : {chain : Chain} → chain ≡ chainIn b slot → chain .count ≡ 0 → Judging b notes queue sum (slot + 1)
+    judging-free {chain} at none =
+        let free : used chain ≡ false = not-yes (λ u. used-says chain .0 u none) in
+        judging-next at (ap (slotGood (b .height) (b .width) (owner b) (b .next) slot) (sym at) ∙ free-good (b .height) (b .width) (owner b) (b .next) slot chain free)
+        (record { notesLong = is .notesLong; queueLong = is .queueLong; hashed = is .hashed; painted = λ p. rw free })
+
+    pub judging-used :
+        {notes′ queue′ : List ℕ} {sum′ : ℕ} {chain : Chain} → chain ≡ chainIn b slot → chain .count ≢ 0
+        → chainGood (b .height) (b .width) (ownerIn notes) (b .next) slot chain ≡ true
+        → Passed (b .height) (b .width) (found (b .height) (b .width) (ownerIn notes) slot (chain .origin)) (chain .colour) notes notes′ queue′ sum′
+        → Judging b notes′ queue′ sum′ (slot + 1)
+    judging-used {chain = chain} at some good passed = judging-next at (judging-chain at some ∙ good) (rw (used-says chain .1 some) passed)
 
   -- after all of them
   module _ {notes queue : List ℕ} {sum slot : ℕ} (is : Judging b notes queue sum slot) (done : slots ≤ slot) where

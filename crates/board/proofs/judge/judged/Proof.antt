@@ -1,9 +1,9 @@
--- `judged` meets its contract: after some slots those passed are good, their stones noted and counted, and each way out has found one test
--- to fail, or the hash to decide. The measure is what is left of the slots.
+-- `judged` meets its contract: after some slots those passed are free or good, their stones noted and counted, and each way out has found
+-- one test to fail, or the hash to decide. The measure is what is left of the slots.
 use mathlib.Core.Path.{_≡_, refl, sym, ap, _∙_}
 use mathlib.Core.Bool.{true, false, cond}
-use mathlib.Core.List.{[]}
-use mathlib.Core.Logic.{inl, inr}
+use mathlib.Core.List.{List, []}
+use mathlib.Core.Logic.{inl, inr, ⊎-elim}
 use Prim.Native.Nat.{ℕ, _+_, _-_, _*_, _^_, _≤_, _<_}
 use native.Mathlib.Omega.{arith}
 use lib.Dec.{eqb}
@@ -14,7 +14,7 @@ use Rattle.rules.specs.Lists.{all, below}
 use Rattle.rules.specs.Points.{area}
 use Rattle.rules.specs.Colours.{black, white}
 use Rattle.rules.specs.Game.{Player, stones}
-use Rattle.rules.specs.Laws.Lists.{getD-default}
+use Rattle.rules.specs.Laws.Lists.{decided, getD-default}
 use Rattle.chains.specs.declared.group.Chain.{Chain}
 use Rattle.chains.proofs.group.Chain as chain
 use Rattle.chains.specs.Group.{freeChain}
@@ -27,7 +27,7 @@ use Rattle.flooding.specs.Flood.{hashOf}
 use Rattle.board.specs.Judge.{sideGood, slotGood, noted, judged}
 use Rattle.board.specs.Laws.Judge.{judged-true}
 use Rattle.board.specs.Laws.Stones.{stonesBelow, stonesBelow-none, stonesBelow-step, stonesBelow-all}
-use Rattle.board.specs.Laws.Verdict.{side-some, sides-fit, sides-some, sides-wide, Judging, judging-begin, judging-slot, judging-lent, judging-next, notes-all}
+use Rattle.board.specs.Laws.Verdict.{side-some, sides-fit, sides-some, sides-wide, Judging, judging-begin, judging-chain, judging-lent, judging-free, judging-used, notes-all}
 use Rattle.board.specs.Laws.Verdict.{seenGood, rowsGood, columnsGood, no-height, no-width, not-placed, bad-slot, not-seen, not-rows, not-columns, hash-decides}
 use borrow.Author.Needs.{needs}
 use Rattle.board.proofs.judge.judged.Statement.{statement}
@@ -49,12 +49,32 @@ one-more :
 one-more {b} {colour} {sum} {slot} chain so-far low here few =
     record { exact = λ is. stonesBelow-step b is colour slot chain low (so-far .exact is) here; small = omega (arith, so-far .small) }
 
+-- a free slot has none
+no-more :
+    {b : Board} {colour sum slot : ℕ} (chain : Chain) → Counting b colour sum slot → slot < slots → getD (b .chains) slot chain .count ≡ 0
+    → Counting b colour sum (slot + 1)
+no-more {b} {colour} {sum} {slot} chain so-far low free =
+    let none : 0 ≡ cond (eqb (getD (b .chains) slot chain .colour) colour) (getD (b .chains) slot chain .count) 0 =
+    ⊎-elim (λ y. rw y (sym free)) (λ n. rw n) (decided (eqb (getD (b .chains) slot chain .colour) colour)) in
+    let more = one-more chain so-far low none (omega arith) in
+    record { exact = λ is. omega (arith, more .exact is); small = omega (arith, so-far .small) }
+
 all-told : {b : Board} {colour sum slot : ℕ} → Counting b colour sum slot → slot ≡ slots → TrueBoard b → Player colour → sum ≡ stones (coloursOf b) colour
 all-told {b} {colour} counting e is player = counting .exact is ∙ ap (stonesBelow b colour) e ∙ stonesBelow-all b is colour player
 
+-- what holds after some slots
+abbrev Passing : Board → List ℕ → List ℕ → ℕ → ℕ → ℕ → ℕ → Type 0
+Passing b notes queue hash blacks whites slot = Judging b notes queue hash slot × Counting b black blacks slot × Counting b white whites slot
+
+-- the same of what is the same, where the ways by a used slot and by a free one have met
+passing-same :
+    {b : Board} {notes notes′ queue queue′ : List ℕ} {hash hash′ blacks blacks′ whites whites′ slot : ℕ}
+    → notes′ ≡ notes → queue′ ≡ queue → hash′ ≡ hash → blacks′ ≡ blacks → whites′ ≡ whites
+    → Passing b notes queue hash blacks whites slot → Passing b notes′ queue′ hash′ blacks′ whites′ slot
+passing-same n q h b w is = rw (n, q, h, b, w) is
+
 abbrev Inv-loop : tie.InvT-loop
-Inv-loop board height width starts numbers notes₀ queue₀ hash₀ black₀ white₀ slot₀ notes queue hash blacks whites slot =
-    Judging board notes queue hash slot × Counting board black blacks slot × Counting board white whites slot
+Inv-loop board height width starts numbers notes₀ queue₀ hash₀ black₀ white₀ slot₀ = Passing board
 
 abbrev μ-loop : tie.MeasureT-loop
 μ-loop board height width starts numbers notes₀ queue₀ hash₀ black₀ white₀ slot₀ notes queue hash black white slot = slots - slot
@@ -101,8 +121,8 @@ on c = sym (c .before .all-placed .ensures) ∙ not-false _ (c .if3 .left)
 abbrev before : (c : tie.At-loop Inv-loop μ-loop) → tie.Else3 Inv-loop μ-loop
 before c = c .before .before .before .before
 
-abbrev looped : (c : tie.After-slot-good Inv-loop μ-loop) → tie.In-loop Inv-loop μ-loop
-looped c = c .before .before .before .before .before .before .before .before .before
+abbrev looped : (c : tie.After-chain-good Inv-loop μ-loop) → tie.In-loop Inv-loop μ-loop
+looped c = c .before .before .before .before .before .before .before .before .before .before
 
 -- what is read past the end of an array of chains
 abbrev past : Chain
@@ -115,33 +135,16 @@ chain-at c =
     let b = board (before loop) in
     getD-default (b .chains) (loop .loop .slot) past freeChain (omega (arith, shape (begin (before loop)) .chains, c .loop-test .taken))
 
-tested : (c : tie.After-slot-good Inv-loop μ-loop)
+tested : (c : tie.After-chain-good Inv-loop μ-loop)
     → let loop = looped c .before in
     let b = board (before loop) in
-    slotGood (b .height) (b .width) (owner b) (b .next) (loop .loop .slot) (chainIn b (loop .loop .slot)) ≡ c .slot-good .result
-unfolding owner ownerIn
+    slotGood (b .height) (b .width) (owner b) (b .next) (loop .loop .slot) (chainIn b (loop .loop .slot)) ≡ c .chain-good .result
 tested c =
-    let loop = looped c .before in
-    let e = before loop in
-    let b = board e in
-    ap (slotGood (b .height) (b .width) (owner b) (b .next) (loop .loop .slot)) (sym (chain-at (looped c)))
-    ∙ sym (judging-slot b (shape (begin e)) (on e) (loop .loop .inv .0) (looped c .loop-test .taken) _)
-    ∙ sym (c .slot-good .ensures .0)
-
--- what the slot adds to each count
-blacks-next : (c : tie.After-stones-in Inv-loop μ-loop)
-    → let loop = looped (c .before .before) .before in
-    Counting (board (before loop)) black (loop .loop .black + c .stones-in .result) (loop .loop .slot + 1)
-blacks-next c =
-    let inside = looped (c .before .before) in
-    one-more _ (inside .before .loop .inv .1) (inside .loop-test .taken) (c .stones-in .ensures .0) (c .stones-in .ensures .1)
-
-whites-next : (c : tie.After-stones-in2 Inv-loop μ-loop)
-    → let loop = looped (c .before .before .before) .before in
-    Counting (board (before loop)) white (loop .loop .white + c .stones-in2 .result) (loop .loop .slot + 1)
-whites-next c =
-    let inside = looped (c .before .before .before) in
-    one-more _ (inside .before .loop .inv .2) (inside .loop-test .taken) (c .stones-in2 .ensures .0) (c .stones-in2 .ensures .1)
+    let inside = looped c in
+    let e = before (inside .before) in
+    judging-chain (board e) (shape (begin e)) (on e) (inside .before .loop .inv .0) (inside .loop-test .taken) (chain-at inside)
+    (c .before .before .before .before .before .before .before .before .before .if4 .taken)
+    ∙ sym (c .chain-good .ensures .0)
 
 -- ---- After all slots
 
@@ -177,15 +180,21 @@ table-requires c κs = search needs
 loop-holds : tie.Need-loop-holds Inv-loop μ-loop
 loop-holds c = let e = c .before .before .before in (judging-begin (board e) (shape (begin e)) (on e), none-yet (board e) black, none-yet (board e) white)
 
+mul-if4 : tie.Need-mul-if4 Inv-loop μ-loop
+mul-if4 c = omega arith
+
+element-copy-out-if4 : tie.Need-element-copy-out-if4 Inv-loop μ-loop
+element-copy-out-if4 c = omega arith
+
 mul-chain : tie.Need-mul-chain Inv-loop μ-loop
 mul-chain c = omega arith
 
 element-copy-out-chain : tie.Need-element-copy-out-chain Inv-loop μ-loop
 element-copy-out-chain c = omega arith
 
-slot-good-requires : tie.Need-slot-good-requires Inv-loop μ-loop
-slot-good-requires c κs =
-    let inside = c .before .before .before .before .before .before .before .before in
+chain-good-requires : tie.Need-chain-good-requires Inv-loop μ-loop
+chain-good-requires c κs =
+    let inside = c .before .before .before .before .before .before .before .before .before in
     let loop = inside .before in
     let e = before loop in
     judging-lent (board e) (shape (begin e)) (on e) (loop .loop .inv .0) (inside .loop-test .taken) (loop .before .before .table .ensures) (loop .before .before .before .row-starts .ensures) (fits (sized e))
@@ -195,19 +204,23 @@ returns-4 c =
     let inside = looped (c .before) in
     let loop = inside .before in
     let e = before loop in
-    refused (begin e) (bad-slot (board e) (loop .loop .slot) (inside .loop-test .taken) (tested (c .before) ∙ not-true _ (c .if4 .taken)))
+    refused (begin e) (bad-slot (board e) (loop .loop .slot) (inside .loop-test .taken) (tested (c .before) ∙ not-true _ (c .if5 .taken)))
 
 stones-in-requires : tie.Need-stones-in-requires Inv-loop μ-loop
 stones-in-requires c κs = search needs
 
 add-black : tie.Need-add-black Inv-loop μ-loop
-add-black c = omega (arith, blacks-next c .small, looped (c .before .before) .loop-test .taken)
+add-black c =
+    let inside = looped (c .before .before) in
+    omega (arith, inside .before .loop .inv .1 .small, inside .loop-test .taken, c .stones-in .ensures .1)
 
 stones-in-requires-2 : tie.Need-stones-in-requires-2 Inv-loop μ-loop
 stones-in-requires-2 c κs = search needs
 
 add-white : tie.Need-add-white Inv-loop μ-loop
-add-white c = omega (arith, whites-next c .small, looped (c .before .before .before) .loop-test .taken)
+add-white c =
+    let inside = looped (c .before .before .before) in
+    omega (arith, inside .before .loop .inv .2 .small, inside .loop-test .taken, c .stones-in2 .ensures .1)
 
 add-slot : tie.Need-add-slot Inv-loop μ-loop
 add-slot c = omega arith
@@ -216,18 +229,28 @@ loop-less : tie.Need-loop-less Inv-loop μ-loop
 loop-less c = omega arith
 
 loop-again : tie.Need-loop-again Inv-loop μ-loop
-unfolding owner ownerIn
 loop-again c =
-    let passed = c .before .before in
-    let inside = looped (passed .before) in
+    let inside = c .before in
     let loop = inside .before in
     let e = before loop in
-    let good = not-false _ (passed .if4 .left) in (
-      judging-next (board e) (shape (begin e)) (on e) (loop .loop .inv .0) (inside .loop-test .taken) (chain-at inside) (tested (passed .before) ∙ good)
-          (passed .before .slot-good .ensures .1 good),
-      blacks-next (c .before),
-      whites-next c,
-    )
+    let low = inside .loop-test .taken in
+    let (judging, blacks, whites) = loop .loop .inv in
+    ⊎-elim
+    (λ w.
+    let good = not-false _ (w .10 .left) in
+    passing-same (w .13) (w .14) (w .15) (w .16) (w .17) (
+      judging-used (board e) (shape (begin e)) (on e) judging low (chain-at inside) (w .0 .taken) (sym (w .9 .ensures .0) ∙ good)
+          (w .9 .ensures .1 good),
+      one-more _ blacks low (w .11 .ensures .0) (w .11 .ensures .1),
+      one-more _ whites low (w .12 .ensures .0) (w .12 .ensures .1),
+    ))
+    (λ w.
+    passing-same (w .1) (w .2) (w .3) (w .4) (w .5) (
+      judging-free (board e) (shape (begin e)) (on e) judging low (chain-at inside) (w .0 .left),
+      no-more _ blacks low (w .0 .left),
+      no-more _ whites low (w .0 .left),
+    ))
+    (c .if4 .came)
 
 all-found-requires : tie.Need-all-found-requires Inv-loop μ-loop
 all-found-requires c κs = let loop = c .before .before in (loop .loop .inv .0 .notesLong, fits (sized (before loop)))
@@ -236,7 +259,7 @@ returns-5 : tie.Need-returns-5 Inv-loop μ-loop
 returns-5 c =
     let after = c .before .before .before in
     let e = before (after .before) in
-    refused (begin e) (not-seen (board e) (ap (seenGood (board e)) (sym (all-noted after)) ∙ sym (c .before .all-found .ensures) ∙ not-true _ (c .if5 .taken)))
+    refused (begin e) (not-seen (board e) (ap (seenGood (board e)) (sym (all-noted after)) ∙ sym (c .before .all-found .ensures) ∙ not-true _ (c .if6 .taken)))
 
 rows-apart-requires : tie.Need-rows-apart-requires Inv-loop μ-loop
 rows-apart-requires c κs =
@@ -250,7 +273,7 @@ unfolding owner ownerIn
 returns-6 c =
     let after = c .before .before .before .before .before .before .before .before .before in
     let e = before (after .before) in
-    refused (begin e) (not-rows (board e) (ap (rowsGood (board e)) (sym (all-noted after)) ∙ sym (c .before .rows-apart .ensures) ∙ not-true _ (c .if6 .taken)))
+    refused (begin e) (not-rows (board e) (ap (rowsGood (board e)) (sym (all-noted after)) ∙ sym (c .before .rows-apart .ensures) ∙ not-true _ (c .if7 .taken)))
 
 columns-apart-requires : tie.Need-columns-apart-requires Inv-loop μ-loop
 columns-apart-requires c κs =
@@ -264,13 +287,13 @@ unfolding owner ownerIn
 returns-7 c =
     let after = c .before .before .before .before .before .before .before .before .before .before .before .before .before .before in
     let e = before (after .before) in
-    refused (begin e) (not-columns (board e) (ap (columnsGood (board e)) (sym (all-noted after)) ∙ sym (c .before .columns-apart .ensures) ∙ not-true _ (c .if7 .taken)))
+    refused (begin e) (not-columns (board e) (ap (columnsGood (board e)) (sym (all-noted after)) ∙ sym (c .before .columns-apart .ensures) ∙ not-true _ (c .if8 .taken)))
 
 -- the place after the loop, from where all tests but the hash's are passed
-abbrev done : (c : tie.Else7 Inv-loop μ-loop) → tie.After-loop Inv-loop μ-loop
+abbrev done : (c : tie.Else8 Inv-loop μ-loop) → tie.After-loop Inv-loop μ-loop
 done c = c .before .before .before .before .before .before .before .before .before .before .before .before .before .before
 
-decides : (c : tie.Else7 Inv-loop μ-loop) → let loop = done c .before in judged (board (before loop)) ≡ eqb (board (before loop) .hash) (loop .loop .hash)
+decides : (c : tie.Else8 Inv-loop μ-loop) → let loop = done c .before in judged (board (before loop)) ≡ eqb (board (before loop) .hash) (loop .loop .hash)
 unfolding owner ownerIn
 decides c =
     let near = c .before .before .before .before .before in
@@ -284,13 +307,13 @@ decides c =
     (wide (sized e))
     (on e)
     (λ s l. loop .loop .inv .0 .good s (omega (arith, after .loop-test .left)))
-    (ap (seenGood b) (sym (all-noted after)) ∙ sym (found .before .all-found .ensures) ∙ not-false _ (found .if5 .left))
-    (ap (rowsGood b) (sym (all-noted after)) ∙ sym (near .before .rows-apart .ensures) ∙ not-false _ (near .if6 .left))
-    (ap (columnsGood b) (sym (all-noted after)) ∙ sym (c .before .columns-apart .ensures) ∙ not-false _ (c .if7 .left))
+    (ap (seenGood b) (sym (all-noted after)) ∙ sym (found .before .all-found .ensures) ∙ not-false _ (found .if6 .left))
+    (ap (rowsGood b) (sym (all-noted after)) ∙ sym (near .before .rows-apart .ensures) ∙ not-false _ (near .if7 .left))
+    (ap (columnsGood b) (sym (all-noted after)) ∙ sym (c .before .columns-apart .ensures) ∙ not-false _ (c .if8 .left))
     ∙ sym (ap (eqb (b .hash)) (loop .loop .inv .0 .hashed ∙ ap (hashOf (b .height) (b .width)) (all-noted after)))
 
 returns-8 : tie.Need-returns-8 Inv-loop μ-loop
-returns-8 c = refused (begin (before (done (c .before) .before))) (decides (c .before) ∙ ne-eqb _ _ (c .if8 .taken))
+returns-8 c = refused (begin (before (done (c .before) .before))) (decides (c .before) ∙ ne-eqb _ _ (c .if9 .taken))
 
 returns-9 : tie.Need-returns-9 Inv-loop μ-loop
 unfolding Player
@@ -298,7 +321,7 @@ returns-9 c =
     let after = done (c .before) in
     let loop = after .before in
     let e = before loop in
-    let is = judged-true (board e) (shape (begin e)) .0 (decides (c .before) ∙ eq-eqb _ _ (c .if8 .left)) in
+    let is = judged-true (board e) (shape (begin e)) .0 (decides (c .before) ∙ eq-eqb _ _ (c .if9 .left)) in
     let all : loop .loop .slot ≡ slots = omega (arith, loop .loop .inv .0 .within, after .loop-test .left) in
     (λ t. is, (λ t. refl, (all-told (loop .loop .inv .1) all is (inl refl), all-told (loop .loop .inv .2) all is (inr refl))))
 
@@ -317,9 +340,11 @@ judged-spec =
     row-starts-requires
     table-requires
     loop-holds
+    mul-if4
+    element-copy-out-if4
     mul-chain
     element-copy-out-chain
-    slot-good-requires
+    chain-good-requires
     returns-4
     stones-in-requires
     add-black
