@@ -10,7 +10,8 @@ use Rattle.board.specs.True.{TrueBoard}
 use Rattle.game.specs.declared.state.Game.{Game}
 use Rattle.game.specs.View.{viewOf, TrueState}
 use Rattle.writing.specs.Figures.{decimal, hex}
-use Rattle.wording.specs.Replies.{state, points}
+use Rattle.wording.specs.Replies.{points}
+use Rattle.stating.specs.State.{state}
 use Rattle.telling.specs.Reply.{Reply, TrueDesk, Stays}
 
 -- the points, or the refusal's number alone

@@ -1,4 +1,3 @@
 -- What is proved about the definitions.
 pub mod Replies
-pub mod State
 pub mod Examples

@@ -1,4 +1,3 @@
--- What the replies say, letter for letter, and what writing them promises. Laws are apart from the definitions.
+-- What the replies say of points, letter for letter. Laws are apart from the definitions.
 pub mod Replies
-pub mod Said
 pub mod Laws

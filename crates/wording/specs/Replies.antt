@@ -1,4 +1,4 @@
--- What a reply says.
+-- What a reply says of points.
 use mathlib.Core.Bool.{Bool, cond, _&&_}
 use mathlib.Core.List.{List, [], _∷_, _++_}
 use mathlib.Core.Option.{Option, none, some}
@@ -6,25 +6,16 @@ use Prim.Native.Nat.{ℕ, zero, suc}
 use lib.Dec.{eqb, ltb}
 use lib.ListN.{length}
 use Rattle.rules.specs.Colours.{black, white, at}
-use Rattle.rules.specs.Points.{area, row, column}
-use Rattle.rules.specs.Game.{Game}
+use Rattle.rules.specs.Points.{row, column}
 use Rattle.spelling.specs.Text.{ascii}
 use Rattle.writing.specs.Figures.{decimal, spaced}
 
--- ---- The state
-
--- B or W
-unfoldable pub player : ℕ → ℕ
-player c = cond (eqb c white) 87 66
+-- ---- Places and rows
 
 -- row and column with a comma between; a dash where there is none
 abbrev pub placed : ℕ → Option ℕ → List ℕ
 placed w none = ascii "-"
 placed w (some p) = decimal (row w p) ++ ascii "," ++ decimal (column w p)
-
-abbrev pub named : Option ℕ → List ℕ
-named none = ascii "-"
-named (some c) = player c ∷ []
 
 -- X is Black, O is White, a dot is empty
 unfoldable pub sign : ℕ → ℕ
@@ -42,23 +33,7 @@ abbrev pub rowsUpto : ℕ → List ℕ → ℕ → List ℕ
 rowsUpto w cols zero = []
 rowsUpto w cols (suc p) = rowsUpto w cols p ++ point (startsRow w p) (at cols p)
 
--- turn, passes, White stones removed, Black stones removed, ko point on a board of this width, outcome, records
-unfoldable pub facts : ℕ → ℕ → ℕ → ℕ → ℕ → Option ℕ → Option ℕ → ℕ → List ℕ
-facts turn passes white black w ko outcome records =
-    (player turn ∷ [])
-    ++ spaced (decimal passes)
-    ++ spaced (decimal white)
-    ++ spaced (decimal black)
-    ++ spaced (placed w ko)
-    ++ spaced (named outcome)
-    ++ spaced (decimal records)
-
-unfoldable pub state : Game → List ℕ
-state g =
-    facts (g .turn) (g .passes) (g .whiteHeld) (g .blackHeld) (g .width) (g .koPoint) (g .outcome) (g .records)
-    ++ spaced (rowsUpto (g .width) (g .colours) (area (g .height) (g .width)))
-
--- ---- Points
+-- ---- Lists
 
 abbrev pub each : List ℕ → List ℕ
 each [] = []

@@ -1,2 +1,2 @@
-// Floor 5, the text of a reply: the state and points.
+// Floor 5, the text of a reply: points.
 pub mod replies;

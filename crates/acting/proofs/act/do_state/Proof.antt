@@ -6,7 +6,7 @@ use Rattle.rules.specs.Answers.{Damaged, number}
 use Rattle.game.specs.View.{viewOf}
 use Rattle.checking.specs.Laws.State.{state-or-not}
 use Rattle.writing.specs.Figures.{decimal}
-use Rattle.wording.specs.Replies.{state}
+use Rattle.stating.specs.State.{state}
 use Rattle.telling.specs.Told.{Unlent}
 use borrow.Author.Needs.{needs}
 use Rattle.acting.proofs.act.do_state.Statement.{statement}

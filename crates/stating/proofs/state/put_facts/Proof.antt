@@ -3,12 +3,12 @@ use mathlib.Core.Path.{ap}
 use mathlib.Core.List.{[], _∷_}
 use Prim.Native.Nat.{ℕ}
 use native.Mathlib.Omega.{arith}
-use Rattle.wording.specs.Replies.{facts}
-use Rattle.wording.specs.Said.{told}
+use Rattle.stating.specs.State.{facts}
+use Rattle.stating.specs.Said.{told}
 use Rattle.writing.specs.Laws.Put.{put-then, put-same}
 use borrow.Author.Needs.{needs}
-use Rattle.wording.proofs.replies.put_facts.Statement.{statement}
-use Rattle.wording.proofs.replies.put_facts.Tie as tie
+use Rattle.stating.proofs.state.put_facts.Statement.{statement}
+use Rattle.stating.proofs.state.put_facts.Tie as tie
 
 player-sign-requires : tie.Need-player-sign-requires
 player-sign-requires c κs = search needs

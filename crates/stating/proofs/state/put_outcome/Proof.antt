@@ -6,8 +6,8 @@ use native.Mathlib.Omega.{arith}
 use Rattle.writing.specs.Figures.{spaced}
 use Rattle.writing.specs.Laws.Put.{put-then, put-same}
 use borrow.Author.Needs.{needs}
-use Rattle.wording.proofs.replies.put_outcome.Statement.{statement}
-use Rattle.wording.proofs.replies.put_outcome.Tie as tie
+use Rattle.stating.proofs.state.put_outcome.Statement.{statement}
+use Rattle.stating.proofs.state.put_outcome.Tie as tie
 
 put-byte-requires : tie.Need-put-byte-requires
 put-byte-requires c κs = search needs

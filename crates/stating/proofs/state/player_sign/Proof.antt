@@ -1,8 +1,8 @@
 -- `player_sign`: the case of the definition.
 use borrow.Author.Tests.{eq-eqb, ne-eqb}
-use Rattle.wording.specs.Replies.{player}
-use Rattle.wording.proofs.replies.player_sign.Statement.{statement}
-use Rattle.wording.proofs.replies.player_sign.Tie as tie
+use Rattle.stating.specs.State.{player}
+use Rattle.stating.proofs.state.player_sign.Statement.{statement}
+use Rattle.stating.proofs.state.player_sign.Tie as tie
 
 returns : tie.Need-returns
 unfolding player

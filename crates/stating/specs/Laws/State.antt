@@ -22,8 +22,9 @@ use Rattle.game.specs.Asks.{noFacts, Told, Asked}
 use Rattle.game.specs.View.{viewOf, TrueState}
 use Rattle.spelling.specs.Text.{space}
 use Rattle.writing.specs.Figures.{spaced}
-use Rattle.wording.specs.Replies.{facts, startsRow, point, rowsUpto, state}
-use Rattle.wording.specs.Said.{told}
+use Rattle.wording.specs.Replies.{startsRow, point, rowsUpto}
+use Rattle.stating.specs.State.{facts, state}
+use Rattle.stating.specs.Said.{told}
 
 -- ---- The answer
 

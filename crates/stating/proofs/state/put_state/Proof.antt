@@ -5,13 +5,13 @@ use native.Mathlib.Omega.{arith}
 use Rattle.rules.specs.Sizes.{maxArea}
 use Rattle.rules.specs.Answers.{number}
 use Rattle.writing.specs.Figures.{decimal}
 use Rattle.wording.specs.Replies.{rowsUpto}
 use Rattle.game.specs.Asks.{noFacts}
 use Rattle.writing.specs.Laws.Put.{put-then, put-same}
-use Rattle.wording.specs.Laws.State.{undamaged, area-undamaged, damaged-answer, state-said}
+use Rattle.stating.specs.Laws.State.{undamaged, area-undamaged, damaged-answer, state-said}
 use borrow.Author.Needs.{needs}
-use Rattle.wording.proofs.replies.put_state.Statement.{statement}
-use Rattle.wording.proofs.replies.put_state.Tie as tie
+use Rattle.stating.proofs.state.put_state.Statement.{statement}
+use Rattle.stating.proofs.state.put_state.Tie as tie
 
 facts-of-requires : tie.Need-facts-of-requires
 facts-of-requires c κs = search needs

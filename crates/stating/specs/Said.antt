@@ -8,8 +8,8 @@ use Rattle.game.specs.declared.asks.Facts.{Facts}
 use Rattle.game.specs.Asks.{namedOf}
 use Rattle.game.specs.View.{viewOf, TrueState}
 use Rattle.writing.specs.Figures.{decimal}
-use Rattle.wording.specs.Replies.{facts, state}
 use Rattle.writing.specs.Put.{Put}
+use Rattle.stating.specs.State.{facts, state}
 
 -- all of the state but the rows
 unfoldable pub told : Facts → List ℕ
