@@ -1,6 +1,7 @@
 // Boards made by hand: built from colours, drawn and asked. What it writes is known by heart and stands in `stdout`.
 use board::goban::Board;
 use chains::group::index;
+use counting::goban::number_of_chains;
 use drawing::draw::pretty_string;
 use grouping::group::chain_at;
 use listing::list::chain_liberties;
@@ -9,7 +10,6 @@ use points::sizes::MAX_AREA;
 use points::sizes::MAX_SIDE;
 use points::stones::BLACK;
 use points::stones::WHITE;
-use queries::goban::number_of_chains;
 ghost use Rattle.io.specs.Counts.{Counts};
 
 // As many of the bytes as there are.

@@ -1,30 +1,31 @@
 // Boards by value: made, judged and asked.
 use board::goban::Board;
 use board::judge::judge;
+use counting::goban::ChainsAnswer;
+use counting::goban::HashAnswer;
+use counting::goban::SizeAnswer;
+use counting::goban::StonesAnswer;
+use counting::goban::number_of_chains;
+use counting::goban::number_of_stones;
+use counting::goban::size;
+use counting::goban::zobrist_hash;
 use grouping::group::ChainAnswer;
 use grouping::group::chain_at;
 use grouping::group::contains_liberty;
 use placing::place::Placed;
 use placing::place::from_colours;
 use placing::place::new_board;
-use queries::goban::ChainsAnswer;
 use queries::goban::ColourAnswer;
-use queries::goban::HashAnswer;
-use queries::goban::SizeAnswer;
-use queries::goban::StonesAnswer;
 use queries::goban::TestAnswer;
 use queries::goban::get_color;
 use queries::goban::has_liberties;
-use queries::goban::number_of_chains;
-use queries::goban::number_of_stones;
-use queries::goban::size;
-use queries::goban::zobrist_hash;
 ghost use mathlib.Core.Path.{_≡_};
 ghost use mathlib.Core.Bool.{true, false, _||_};
 ghost use Rattle.board.specs.True.{TrueBoard};
 ghost use Rattle.placing.specs.Placing.{NewBoard, FromColours};
 ghost use Rattle.vetting.specs.Answered.{Answered, offBoard};
-ghost use Rattle.queries.specs.Goban.{noSize, sizeOf, noHash, hashOf, noStones, stonesOf, noChains, chainsOf, noColour, colourOf, noTest, breathes};
+ghost use Rattle.queries.specs.Goban.{noColour, colourOf, noTest, breathes};
+ghost use Rattle.counting.specs.Goban.{noSize, sizeOf, noHash, hashOf, noStones, stonesOf, noChains, chainsOf};
 ghost use Rattle.grouping.specs.Group.{noChain, chainOf, libertyAt};
 
 #[no_mangle]

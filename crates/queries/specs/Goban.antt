@@ -1,24 +1,17 @@
--- What the queries on a board tell: for each, the result that refuses by a number, with 0 for every value, and what the rules say of
--- the board's colours.
+-- What the queries on a board's points tell: for each, the result that refuses by a number, with 0 for every value, and what the rules
+-- say of the board's colours.
 use mathlib.Core.Bool.{Bool, false, cond, not}
 use mathlib.Core.List.{List}
 use Prim.Native.Nat.{ℕ}
 use lib.Dec.{ltb}
 use lib.ListN.{getD}
 use Rattle.rules.specs.Sizes.{slots}
-use Rattle.rules.specs.Colours.{empty, black, white, at}
+use Rattle.rules.specs.Colours.{empty, at}
 use Rattle.rules.specs.Points.{index}
 use Rattle.rules.specs.Flood.{touches}
-use Rattle.rules.specs.Chain.{chains}
-use Rattle.rules.specs.Game.{stones}
-use Rattle.rules.specs.Hash.{hash}
 use Rattle.rules.specs.Answers.{number, Accepted}
 use Rattle.board.specs.declared.goban.Board.{Board}
 use Rattle.board.specs.Board.{coloursOf}
-use Rattle.queries.specs.declared.goban.SizeAnswer.{SizeAnswer}
-use Rattle.queries.specs.declared.goban.HashAnswer.{HashAnswer}
-use Rattle.queries.specs.declared.goban.StonesAnswer.{StonesAnswer}
-use Rattle.queries.specs.declared.goban.ChainsAnswer.{ChainsAnswer}
 use Rattle.queries.specs.declared.goban.ColourAnswer.{ColourAnswer}
 use Rattle.queries.specs.declared.goban.TestAnswer.{TestAnswer}
 use Rattle.queries.specs.declared.goban.Owner.{Owner}
@@ -34,30 +27,6 @@ unfoldable pub unowned : List ℕ → ℕ → Bool
 unowned owners p = not (ltb (getD owners p slots) slots)
 
 -- ---- The queries
-
-unfoldable pub noSize : ℕ → SizeAnswer
-noSize a = record { answer = a; height = 0; width = 0 }
-
-unfoldable pub sizeOf : Board → SizeAnswer
-sizeOf b = record { answer = number Accepted; height = b .height; width = b .width }
-
-unfoldable pub noHash : ℕ → HashAnswer
-noHash a = record { answer = a; hash = 0 }
-
-unfoldable pub hashOf : Board → HashAnswer
-hashOf b = record { answer = number Accepted; hash = hash (coloursOf b) }
-
-unfoldable pub noStones : ℕ → StonesAnswer
-noStones a = record { answer = a; black = 0; white = 0 }
-
-unfoldable pub stonesOf : Board → StonesAnswer
-stonesOf b = record { answer = number Accepted; black = stones (coloursOf b) black; white = stones (coloursOf b) white }
-
-unfoldable pub noChains : ℕ → ChainsAnswer
-noChains a = record { answer = a; chains = 0 }
-
-unfoldable pub chainsOf : Board → ChainsAnswer
-chainsOf b = record { answer = number Accepted; chains = chains (b .height) (b .width) (coloursOf b) }
 
 unfoldable pub noColour : ℕ → ColourAnswer
 noColour a = record { answer = a; colour = empty }

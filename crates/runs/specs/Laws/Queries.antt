@@ -16,15 +16,16 @@ use Rattle.rules.specs.Game.{stones}
 use Rattle.rules.specs.Calls.{Placement}
 use Rattle.board.specs.declared.goban.Board.{Board}
 use Rattle.board.specs.Board.{coloursOf}
-use Rattle.queries.specs.declared.goban.SizeAnswer.{SizeAnswer}
-use Rattle.queries.specs.declared.goban.HashAnswer.{HashAnswer}
-use Rattle.queries.specs.declared.goban.StonesAnswer.{StonesAnswer}
-use Rattle.queries.specs.declared.goban.ChainsAnswer.{ChainsAnswer}
+use Rattle.counting.specs.declared.goban.SizeAnswer.{SizeAnswer}
+use Rattle.counting.specs.declared.goban.HashAnswer.{HashAnswer}
+use Rattle.counting.specs.declared.goban.StonesAnswer.{StonesAnswer}
+use Rattle.counting.specs.declared.goban.ChainsAnswer.{ChainsAnswer}
 use Rattle.queries.specs.declared.goban.ColourAnswer.{ColourAnswer}
 use Rattle.queries.specs.declared.goban.TestAnswer.{TestAnswer}
 use Rattle.grouping.specs.declared.group.ChainAnswer.{ChainAnswer}
 use Rattle.vetting.specs.Answered.{offBoard, Answered}
-use Rattle.queries.specs.Goban.{noSize, sizeOf, noHash, hashOf, noStones, stonesOf, noChains, chainsOf, noColour, colourOf, noTest, breathes}
+use Rattle.queries.specs.Goban.{noColour, colourOf, noTest, breathes}
+use Rattle.counting.specs.Goban.{noSize, sizeOf, noHash, hashOf, noStones, stonesOf, noChains, chainsOf}
 use Rattle.grouping.specs.Group.{noChain, chainAt, chainOf, libertyAt}
 use Rattle.listing.specs.declared.list.Listed.{Listed}
 use Rattle.viewing.specs.declared.shows.Question.{Question}

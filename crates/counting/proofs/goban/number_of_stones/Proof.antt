@@ -7,10 +7,10 @@ use borrow.Author.Needs.{needs}
 use Rattle.rules.specs.Answers.{number}
 use Rattle.rules.specs.Laws.Lists.{not-both}
 use Rattle.board.specs.True.{TrueBoard}
-use Rattle.queries.specs.Goban.{noStones, stonesOf}
+use Rattle.counting.specs.Goban.{noStones, stonesOf}
 use Rattle.vetting.specs.Laws.Answered.{answered-told}
-use Rattle.queries.proofs.goban.number_of_stones.Statement.{statement}
-use Rattle.queries.proofs.goban.number_of_stones.Tie as tie
+use Rattle.counting.proofs.goban.number_of_stones.Statement.{statement}
+use Rattle.counting.proofs.goban.number_of_stones.Tie as tie
 
 judged-requires : tie.Need-judged-requires
 judged-requires c κs = search needs

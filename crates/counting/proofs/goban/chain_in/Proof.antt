@@ -1,8 +1,8 @@
 -- `queries::goban::chain_in`: the count of the slot says whether it is used.
 use borrow.Author.Tests.{eq-eqb, ne-eqb}
 use Rattle.chains.specs.Group.{used}
-use Rattle.queries.proofs.goban.chain_in.Statement.{statement}
-use Rattle.queries.proofs.goban.chain_in.Tie as tie
+use Rattle.counting.proofs.goban.chain_in.Statement.{statement}
+use Rattle.counting.proofs.goban.chain_in.Tie as tie
 
 returns : tie.Need-returns
 unfolding used

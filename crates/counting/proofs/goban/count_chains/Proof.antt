@@ -7,10 +7,10 @@ use borrow.Author.Needs.{needs}
 use Rattle.rules.specs.Sizes.{slots}
 use Rattle.chains.specs.declared.group.Chain.{Chain}
 use Rattle.chains.specs.Group.{used}
 use Rattle.queries.specs.Laws.Owner.{chain-read}
 use Rattle.board.specs.Laws.Stones.{usedBelow, usedBelow-few, usedBelow-none, usedBelow-next, usedBelow-all}
-use Rattle.queries.proofs.goban.count_chains.Statement.{statement}
-use Rattle.queries.proofs.goban.count_chains.Tie as tie
+use Rattle.counting.proofs.goban.count_chains.Statement.{statement}
+use Rattle.counting.proofs.goban.count_chains.Tie as tie
 
 abbrev Inv-loop : tie.InvT-loop
 Inv-loop board sum₀ slot₀ sum slot = (slot ≤ slots) × (sum ≡ usedBelow board slot)

@@ -2,10 +2,10 @@
 use mathlib.Core.Path.{refl}
 use borrow.Author.Needs.{needs}
 use Rattle.rules.specs.Answers.{number}
-use Rattle.queries.specs.Goban.{noChains, chainsOf}
+use Rattle.counting.specs.Goban.{noChains, chainsOf}
 use Rattle.vetting.specs.Laws.Answered.{answered-refused, answered-told}
-use Rattle.queries.proofs.goban.number_of_chains.Statement.{statement}
-use Rattle.queries.proofs.goban.number_of_chains.Tie as tie
+use Rattle.counting.proofs.goban.number_of_chains.Statement.{statement}
+use Rattle.counting.proofs.goban.number_of_chains.Tie as tie
 
 answer-of-requires : tie.Need-answer-of-requires
 answer-of-requires c κs = search needs
