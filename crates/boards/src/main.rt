@@ -5,7 +5,7 @@ use counting::goban::number_of_chains;
 use drawing::draw::pretty_string;
 use grouping::group::chain_at;
 use listing::list::chain_liberties;
-use placing::place::from_colours;
+use making::make::from_colours;
 use points::sizes::MAX_AREA;
 use points::sizes::MAX_SIDE;
 use points::stones::BLACK;

@@ -4,6 +4,5 @@ pub mod Answers
 pub mod Choked
 pub mod Untaken
 pub mod Added
-pub mod NewBoard
 pub mod SoFar
 pub mod Spots

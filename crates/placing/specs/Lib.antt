@@ -1,3 +1,3 @@
--- Boards made whole: what the calls promise, and its laws.
+-- An empty board filled: what the calls promise, and its laws.
 pub mod Placing
 pub mod Laws

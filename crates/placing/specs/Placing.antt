@@ -9,11 +9,10 @@ use Rattle.rules.specs.Colours.{empty, white, at}
 use Rattle.rules.specs.Points.{area, neighbours}
 use Rattle.rules.specs.Reach.{Reaches}
 use Rattle.rules.specs.Answers.{Answer, NoLiberty, number, accepts, refuse}
-use Rattle.rules.specs.Move.{coloured}
 use Rattle.rules.specs.Game.{emptyBoard}
-use Rattle.rules.specs.Calls.{Spot, choked, layBlack, spotsAnswer, layAnswer, sizeAnswer, boardAnswer}
+use Rattle.rules.specs.Calls.{Spot, choked, layBlack, spotsAnswer, layAnswer}
 use Rattle.board.specs.declared.goban.Board.{Board}
-use Rattle.board.specs.Board.{coloursOf, newBoard}
+use Rattle.board.specs.Board.{coloursOf}
 use Rattle.board.specs.True.{TrueBoard}
 use Rattle.placing.specs.declared.handicap.Marked.{Marked}
 use Rattle.placing.specs.declared.place.Placed.{Placed}
@@ -60,17 +59,6 @@ pub record Placing (b : Board) (cols : List ℕ) : Type 0 where
 -- 13 is the one answer that is left
 abbrev pub PlacedOn : Board → List ℕ → Placed → Type 0
 PlacedOn b cols r = Outcome (refuse NoLiberty (choked (b .height) (b .width) cols)) (b .height) (b .width) cols b r
-
--- ---- New board: 1. A refused one is an empty 1 × 1 board
-
-pub record NewBoard (h w : ℕ) (r : Placed) : Type 0 where
-  pub outcome : Outcome (sizeAnswer h w) h w (emptyBoard h w) (newBoard 1 1) r
-  pub made : accepts (sizeAnswer h w) ≡ true → r .board ≡ newBoard h w
-
--- ---- Board from colours: 1, 14, 15, 13. A refused one is an empty 1 × 1 board
-
-abbrev pub FromColours : ℕ → ℕ → List ℕ → Placed → Type 0
-FromColours h w cols r = Outcome (boardAnswer h w cols) h w cols (newBoard 1 1) r
 
 -- ---- Handicap's stones on an empty board: 5 before 6 at each point, then 13
 

@@ -1,3 +1,3 @@
-// Floor 4, whole boards: a new one, one from given colours, and a handicap's stones on an empty one.
+// Floor 4, an empty board filled: with given colours, or with a handicap's stones.
 pub mod handicap;
 pub mod place;

@@ -26,7 +26,7 @@ use Rattle.listing.specs.declared.list.Listed.{Listed}
 use Rattle.viewing.specs.declared.shows.Question.{Question}
 use Rattle.listing.specs.Lists.{Lists}
 use Rattle.placing.specs.declared.place.Placed.{Placed}
-use Rattle.placing.specs.Placing.{FromColours}
+use Rattle.making.specs.Making.{FromColours}
 use Rattle.checking.specs.Promise.{Checked, Filled}
 use Rattle.runs.specs.Runs.{Call, Reply, Event, Desk, Sound, Step, Fresh, Run, newGame, stone, replay, turnOver, turnIn, putIn}
 use Rattle.runs.specs.Holds.{Held, historyAfter, turnedAway}

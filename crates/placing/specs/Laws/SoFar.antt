@@ -9,10 +9,7 @@ use lib.Dec.{ltb}
 use lib.ListN.{length}
 use lib.Seq.{ext-getD}
 use borrow.Author.Tests.{ltb-true, ltb-false}
-use Rattle.rules.specs.Lists.{any}
-use Rattle.rules.specs.Answers.{NoLiberty, refuse}
-use Rattle.rules.specs.Game.{emptyBoard}
-use Rattle.rules.specs.Colours.{empty, white, at}
+use Rattle.rules.specs.Colours.{empty, at}
 use Rattle.rules.specs.Points.{area}
 use Rattle.rules.specs.Move.{coloured}
 use Rattle.rules.specs.Calls.{choked}
@@ -22,9 +19,8 @@ use Rattle.board.specs.Board.{coloursOf}
 use Rattle.board.specs.True.{TrueBoard}
 use Rattle.board.specs.Laws.Board.{length-colours}
 use Rattle.board.specs.Laws.Chains.{true-colours}
-use Rattle.placing.specs.Placing.{Stands, Outcome, Stuck, Placing, PlacedOn}
-use Rattle.placing.specs.declared.place.Placed.{Placed}
-use Rattle.placing.specs.Laws.Colours.{coloured-here, coloured-else, known-colours, empty-at}
+use Rattle.placing.specs.Placing.{Stands, Stuck, Placing}
+use Rattle.placing.specs.Laws.Colours.{coloured-here, coloured-else, empty-at}
 use Rattle.placing.specs.Laws.Choked.{Grows, stuck-grows, stuck-choked, free-choked}
 
 -- the first i points of the given colours stand
@@ -108,22 +104,3 @@ pub stands-free : (h w : ℕ) (cols : List ℕ) (b : Board) → Stands h w cols 
 stands-free h w cols b is =
     sym (ap₂ (λ (x y : ℕ). choked x y (coloursOf b)) (is .tall) (is .wide) ∙ ap (choked h w) (is .colours))
     ∙ free-choked (b .height) (b .width) (coloursOf b) (true-colours b (is .isTrue) .breathes)
-
--- ---- Placing on a new board
-
-module _ (h w : ℕ) (b : Board) (is : Stands h w (emptyBoard h w) b) where
-  pub stands-placing : (cols : List ℕ) → length cols ≡ area h w → any (ltb white) cols ≡ false → Placing b cols
-  stands-placing cols covers known =
-      record {
-        onto = record { isTrue = is .isTrue; bare = is .colours ∙ sym (ap₂ emptyBoard (is .tall) (is .wide)) };
-        covers = covers ∙ sym (ap₂ area (is .tall) (is .wide));
-        known = known-colours cols known;
-      }
-
-  pub placed-sized :
-      (cols : List ℕ) (r : Placed) →
-      PlacedOn b cols r →
-      Outcome (refuse NoLiberty (choked h w cols)) h w cols b r
-  placed-sized cols r o =
-      subst (λ (x : ℕ). Outcome (refuse NoLiberty (choked h x cols)) h x cols b r) (is .wide)
-      (subst (λ (x : ℕ). Outcome (refuse NoLiberty (choked x (b .width) cols)) x (b .width) cols b r) (is .tall) o)

@@ -27,7 +27,7 @@ use Rattle.viewing.specs.declared.shows.Question.{Question}
 use Rattle.viewing.specs.declared.shows.Question.the-variants as questions
 use Rattle.listing.specs.Lists as listing
 use Rattle.placing.specs.declared.place.Placed.{Placed}
-use Rattle.placing.specs.Placing.{FromColours}
+use Rattle.making.specs.Making.{FromColours}
 use Rattle.checking.specs.Promise.{Checked, Filled}
 use Rattle.runs.specs.Runs as runs
 use Rattle.runs.specs.Runs.{Call, Reply, Desk, Sound, Alone, Step}

@@ -1,10 +1,10 @@
--- `placing::place::is_size`: each side by `is_side`.
+-- `making::make::is_size`: each side by `is_side`.
 use mathlib.Core.Path.{sym, ap, _∙_}
 use mathlib.Core.Bool.{Bool, _&&_}
 use borrow.Author.Needs.{needs}
 use Rattle.rules.specs.Calls.{sideOk}
-use Rattle.placing.proofs.place.is_size.Statement.{statement}
-use Rattle.placing.proofs.place.is_size.Tie as tie
+use Rattle.making.proofs.make.is_size.Statement.{statement}
+use Rattle.making.proofs.make.is_size.Tie as tie
 
 is-side-requires : tie.Need-is-side-requires
 is-side-requires c κs = search needs

@@ -1,10 +1,10 @@
--- `placing::place::new_board`: by the test of the sizes, the new board of that size, or what stands for a refused one.
+-- `making::make::new_board`: by the test of the sizes, the new board of that size, or what stands for a refused one.
 use mathlib.Core.Path.{refl, sym, _∙_}
 use borrow.Author.Needs.{needs}
 use borrow.Author.Tests.{not-true, not-false}
-use Rattle.placing.specs.Laws.NewBoard.{size-made, size-refused}
-use Rattle.placing.proofs.place.new_board.Statement.{statement}
-use Rattle.placing.proofs.place.new_board.Tie as tie
+use Rattle.making.specs.Laws.NewBoard.{size-made, size-refused}
+use Rattle.making.proofs.make.new_board.Statement.{statement}
+use Rattle.making.proofs.make.new_board.Tie as tie
 
 is-size-requires : tie.Need-is-size-requires
 is-size-requires c κs = search needs

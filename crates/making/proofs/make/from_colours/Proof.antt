@@ -1,4 +1,4 @@
--- `placing::place::from_colours`: the tests in the order of 01, each with what the ones before it told.
+-- `making::make::from_colours`: the tests in the order of 01, each with what the ones before it told.
 use mathlib.Core.Path.{_≡_, refl, sym, _∙_}
 use mathlib.Core.Bool.{true, false}
 use lib.Dec.{ltb}
@@ -10,13 +10,13 @@ use Rattle.rules.specs.Colours.{white}
 use Rattle.rules.specs.Game.{emptyBoard}
 use Rattle.rules.specs.Answers.{NoLiberty, number, accepts, refuse}
 use Rattle.rules.specs.Calls.{choked, sizeAnswer, boardAnswer}
 use Rattle.placing.specs.Placing.{Stands, Outcome}
-use Rattle.placing.specs.Laws.SoFar.{stands-placing, placed-sized}
+use Rattle.making.specs.Laws.FromColours.{stands-placing, placed-sized}
 use Rattle.rules.specs.Laws.Answers.{zero-accepts, other-refuses}
 use Rattle.placing.specs.Laws.Answers.{outcome-refused, outcome-accepted, outcome-as}
-use Rattle.placing.specs.Laws.Answers.{board-size, board-length, board-colour, board-choked}
-use Rattle.placing.proofs.place.from_colours.Statement.{statement}
-use Rattle.placing.proofs.place.from_colours.Tie as tie
+use Rattle.making.specs.Laws.FromColours.{board-size, board-length, board-colour, board-choked}
+use Rattle.making.proofs.make.from_colours.Statement.{statement}
+use Rattle.making.proofs.make.from_colours.Tie as tie
 
 -- the size was accepted
 sized : (c : tie.Else1) → accepts (sizeAnswer (c .before .before .before .before .args .height) (c .before .before .before .before .args .width)) ≡ true

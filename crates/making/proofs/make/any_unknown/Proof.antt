@@ -1,4 +1,4 @@
--- `placing::place::any_unknown`: whether some byte is no colour is told by the bytes that are left. The measure is how many those are.
+-- `making::make::any_unknown`: whether some byte is no colour is told by the bytes that are left. The measure is how many those are.
 use mathlib.Core.Path.{_≡_, refl, sym, ap, _∙_}
 use mathlib.Core.Bool.{Bool, _||_}
 use mathlib.Core.List.{List}
@@ -11,8 +11,8 @@ use lib.Seq.{drop-cons}
 use borrow.Author.Tests.{lt-ltb, le-ltb}
 use Rattle.rules.specs.Colours.{white}
 use Rattle.rules.specs.Lists.{any}
-use Rattle.placing.proofs.place.any_unknown.Statement.{statement}
-use Rattle.placing.proofs.place.any_unknown.Tie as tie
+use Rattle.making.proofs.make.any_unknown.Statement.{statement}
+use Rattle.making.proofs.make.any_unknown.Tie as tie
 
 abbrev Inv-loop : tie.InvT-loop
 Inv-loop colours i₀ i = (i ≤ length colours) × (any (ltb white) colours ≡ any (ltb white) (drop i colours))

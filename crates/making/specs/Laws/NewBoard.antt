@@ -12,10 +12,11 @@ use Rattle.rules.specs.Laws.Lists.{decided, not-both}
 use Rattle.rules.specs.Laws.Calls.{size-true}
 use Rattle.board.specs.Board.{newBoard}
 use Rattle.board.specs.Laws.NewBoard.{new-colours, new-true}
-use Rattle.placing.specs.Placing.{Stands, NewBoard, FromColours}
-use Rattle.placing.specs.declared.place.Placed.{Placed}
 use Rattle.rules.specs.Laws.Answers.{refuses, passes}
+use Rattle.placing.specs.declared.place.Placed.{Placed}
+use Rattle.placing.specs.Placing.{Stands}
 use Rattle.placing.specs.Laws.Answers.{outcome-refused, outcome-accepted}
+use Rattle.making.specs.Making.{NewBoard, FromColours}
 
 module _ (h w : ℕ) where
   pub new-stands : TrueSize h w → Stands h w (emptyBoard h w) (newBoard h w)

@@ -1,9 +1,9 @@
--- `placing::place::is_side`: the code and the definition make the same tests.
+-- `making::make::is_side`: the code and the definition make the same tests.
 use borrow.Author.Needs.{needs}
 use borrow.Author.Tests.{lt-ltb, le-ltb}
 use Rattle.rules.specs.Calls.{sideOk}
-use Rattle.placing.proofs.place.is_side.Statement.{statement}
-use Rattle.placing.proofs.place.is_side.Tie as tie
+use Rattle.making.proofs.make.is_side.Statement.{statement}
+use Rattle.making.proofs.make.is_side.Tie as tie
 
 cast-result : tie.Need-cast-result
 cast-result c = search needs

@@ -1,0 +1,3 @@
+-- What is proved about making boards.
+pub mod NewBoard
+pub mod FromColours
