@@ -1,2 +1,2 @@
-// Floor 3, the lists: the queries on a board that fill a lent buffer with points, after the crate's goban.rs.
+// Floor 3, the lists: the points of a board that answer a question, in a lent buffer.
 pub mod list;

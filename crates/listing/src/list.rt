@@ -1,5 +1,4 @@
-// The queries that fill a lent buffer with points, as ascending indexes, after the crate's goban.rs. Each takes any bytes as a board and
-// any buffer.
+// The points that answer a question, as ascending indexes in a lent buffer. Any bytes are taken as a board, and any buffer.
 use board::goban::Board;
 use board::judge::judge;
 use points::answers::ACCEPTED;
@@ -10,9 +9,7 @@ use points::answers::OFF_BOARD;
 use points::coord::area;
 use points::coord::is_coord_valid;
 use points::sizes::MAX_AREA;
-use points::stones::EMPTY;
 use points::stones::WHITE;
-use viewing::shows::Local;
 use viewing::shows::Question;
 use viewing::shows::shows;
 use viewing::view::view_of;
@@ -20,7 +17,6 @@ ghost use mathlib.Core.Path.{_≡_};
 ghost use Prim.Native.Nat.{_≤_};
 ghost use lib.ListN.{length};
 ghost use Rattle.rules.specs.Lists.{pick, below};
-ghost use Rattle.rules.specs.Colours.{empty};
 ghost use Rattle.rules.specs.Answers as answers;
 ghost use Rattle.rules.specs.Points as points;
 ghost use Rattle.board.specs.Board.{coloursOf};
@@ -129,67 +125,4 @@ pub fn list(board: Board, question: Question, buffer: &mut [u16]) -> Listed
         number: DAMAGED,
         count: 0,
     }
-}
-
-// The points that are not empty.
-pub fn get_stones(board: Board, buffer: &mut [u16]) -> Listed
-    ensures { λ r. ⌜ Lists board Question.Stones (now (buffer .entry)) r (now (buffer .exit)) ⌝ }
-{
-    list(board, Question::Stones, buffer)
-}
-
-// The points of a colour, the empty ones for the colour 0.
-pub fn get_coords_by_color(board: Board, colour: u8, buffer: &mut [u16]) -> Listed
-    ensures { λ r. ⌜ Lists board (Question.Coloured colour) (now (buffer .entry)) r (now (buffer .exit)) ⌝ }
-{
-    list(board, Question::Coloured(colour), buffer)
-}
-
-// The empty points. The crate's `get_empty_idx` yields the others.
-pub fn get_empty_coords(board: Board, buffer: &mut [u16]) -> Listed
-    ensures { λ r. ⌜ Lists board (Question.Coloured empty) (now (buffer .entry)) r (now (buffer .exit)) ⌝ }
-{
-    list(board, Question::Coloured(EMPTY), buffer)
-}
-
-// The stones of the chain at a point; of an empty point none.
-pub fn chain_stones(board: Board, row: u8, column: u8, buffer: &mut [u16]) -> Listed
-    ensures { λ r. ⌜ Lists board (Question.At row column Local.Chain) (now (buffer .entry)) r (now (buffer .exit)) ⌝ }
-{
-    list(board, Question::At(row, column, Local::Chain), buffer)
-}
-
-// The liberties of the chain at a point; of an empty point none.
-pub fn chain_liberties(board: Board, row: u8, column: u8, buffer: &mut [u16]) -> Listed
-    ensures { λ r. ⌜ Lists board (Question.At row column Local.Liberties) (now (buffer .entry)) r (now (buffer .exit)) ⌝ }
-{
-    list(board, Question::At(row, column, Local::Liberties), buffer)
-}
-
-// The points beside a point.
-pub fn get_connected_points(board: Board, row: u8, column: u8, buffer: &mut [u16]) -> Listed
-    ensures { λ r. ⌜ Lists board (Question.At row column Local.Points) (now (buffer .entry)) r (now (buffer .exit)) ⌝ }
-{
-    list(board, Question::At(row, column, Local::Points), buffer)
-}
-
-// The stones beside a point.
-pub fn get_connected_stones(board: Board, row: u8, column: u8, buffer: &mut [u16]) -> Listed
-    ensures { λ r. ⌜ Lists board (Question.At row column Local.Stones) (now (buffer .entry)) r (now (buffer .exit)) ⌝ }
-{
-    list(board, Question::At(row, column, Local::Stones), buffer)
-}
-
-// The empty points beside a point.
-pub fn get_liberties(board: Board, row: u8, column: u8, buffer: &mut [u16]) -> Listed
-    ensures { λ r. ⌜ Lists board (Question.At row column Local.Empties) (now (buffer .entry)) r (now (buffer .exit)) ⌝ }
-{
-    list(board, Question::At(row, column, Local::Empties), buffer)
-}
-
-// The chains beside a point, each by its least point.
-pub fn get_connected_groups(board: Board, row: u8, column: u8, buffer: &mut [u16]) -> Listed
-    ensures { λ r. ⌜ Lists board (Question.At row column Local.Chains) (now (buffer .entry)) r (now (buffer .exit)) ⌝ }
-{
-    list(board, Question::At(row, column, Local::Chains), buffer)
 }
