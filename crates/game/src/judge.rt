@@ -1,5 +1,5 @@
 // The judge of a state, of whatever bytes: the board's judge once, which counts the stones too, then the numbers. Its sums are in 64 bits,
-// so that none wraps. It has no branch, so that it is compiled into its callers and the game is not copied for it.
+// so that none wraps.
 use crate::state::Game;
 use crate::state::NO_POINT;
 use crate::state::Tally;
@@ -20,10 +20,19 @@ ghost use Rattle.game.specs.Judge.{Decides, InRange, Summed, Untouched};
 fn in_range(end: usize, flags: u8, passes: u8, ko: u16, handicap: u16) -> bool
     ensures { λ r. ⌜ Decides r (InRange end flags passes ko handicap) ⌝ }
 {
-    (flags <= MAX_FLAGS)
-        & (passes <= 2)
-        & (handicap <= (MAX_AREA as u16))
-        & ((ko == NO_POINT) | (index(ko) < end))
+    if MAX_FLAGS < flags {
+        return false;
+    }
+    if 2 < passes {
+        return false;
+    }
+    if (MAX_AREA as u16) < handicap {
+        return false;
+    }
+    if ko == NO_POINT {
+        return true;
+    }
+    index(ko) < end
 }
 
 fn summed(on: Tally, held: Tally, put: Tally, handicap: u16, accepted: u16) -> bool
@@ -31,20 +40,34 @@ fn summed(on: Tally, held: Tally, put: Tally, handicap: u16, accepted: u16) -> b
 {
     let black = put.black as u64;
     let white = put.white as u64;
-    (black == (on.black as u64) + (held.black as u64))
-        & (white == (on.white as u64) + (held.white as u64))
-        & (black + white == (handicap as u64) + (accepted as u64))
+    if black != (on.black as u64) + (held.black as u64) {
+        return false;
+    }
+    if white != (on.white as u64) + (held.white as u64) {
+        return false;
+    }
+    black + white == (handicap as u64) + (accepted as u64)
 }
 
 fn untouched(put: Tally, records: usize, passes: u8, outcome: u8) -> bool
     ensures { λ r. ⌜ Decides r (Untouched put records passes outcome) ⌝ }
 {
-    (put.black == 0)
-        & (put.white == 0)
-        & (records == 0)
-        & (passes == 0)
-        & (outcome != BLACK)
-        & (outcome != WHITE)
+    if put.black != 0 {
+        return false;
+    }
+    if put.white != 0 {
+        return false;
+    }
+    if records != 0 {
+        return false;
+    }
+    if passes != 0 {
+        return false;
+    }
+    if outcome == BLACK {
+        return false;
+    }
+    outcome != WHITE
 }
 
 // The type of `accepted` keeps it at most 65,535; that an untouched game's board is empty follows from the sums.
@@ -53,17 +76,26 @@ pub fn judge_state(game: Game) -> bool
     ensures complete { λ r. ⌜ (TrueState game → r ≡ true) ⌝ }
 {
     let found = judged(game.board);
+    if !found.good {
+        return false;
+    }
     let end = area(game.board.height, game.board.width);
+    if !in_range(end, game.flags, game.passes, game.ko, game.handicap) {
+        return false;
+    }
     let on = Tally {
         black: found.black,
         white: found.white,
     };
     let held = game.held;
     let put = game.put;
-    found.good
-        & in_range(end, game.flags, game.passes, game.ko, game.handicap)
-        & summed(on, held, put, game.handicap, game.accepted)
-        & ((game.begun != 0) | untouched(put, game.records, game.passes, game.outcome))
+    if !summed(on, held, put, game.handicap, game.accepted) {
+        return false;
+    }
+    if game.begun != 0 {
+        return true;
+    }
+    untouched(put, game.records, game.passes, game.outcome)
 }
 
 // The same, for a call that is lent a history of this many bytes.
@@ -71,5 +103,8 @@ pub fn judge_with(game: Game, length: usize) -> bool
     ensures sound { λ r. ⌜ (r ≡ true → TrueState game × RoomIn game length) ⌝ }
     ensures complete { λ r. ⌜ (TrueState game × RoomIn game length → r ≡ true) ⌝ }
 {
-    judge_state(game) & (game.records <= length / RECORD_BYTES)
+    if length / RECORD_BYTES < game.records {
+        return false;
+    }
+    judge_state(game)
 }

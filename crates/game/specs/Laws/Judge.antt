@@ -1,7 +1,7 @@
 -- Laws of Judge: a state is true exactly if its board is, its numbers are in range, its sums hold, and without the mark it is untouched.
-use mathlib.Core.Path.{_≡_, sym, ap, _∙_, subst}
-use mathlib.Core.Bool.{Bool, true, false, not}
-use mathlib.Core.Logic.{_↔_, inl, inr, ⊎-elim}
+use mathlib.Core.Path.{_≡_, refl, sym, ap, _∙_, subst}
+use mathlib.Core.Bool.{Bool, true, false, not, true≢false}
+use mathlib.Core.Logic.{inl, inr, ⊎-elim}
 use mathlib.Core.Option.{some, Option·none-ne-some, Option·some-injective}
 use Prim.Native.Nat.{ℕ, _+_, _≤_, _<_}
 use native.Mathlib.Omega.{arith}
@@ -22,6 +22,14 @@ use Rattle.game.specs.Judge.{Decides, Counted, InRange, Summed, Untouche
 use Rattle.board.specs.Laws.NewBoard.{no-stones}
 use Rattle.game.specs.Laws.View.{turn-player}
 
+-- ---- An answer
+
+pub decides-yes : {P : Type 0} → P → Decides true P
+decides-yes is = record { sound = λ e. is; complete = λ p. refl }
+
+pub decides-no : {P : Type 0} → ¬ P → Decides false P
+decides-no not = record { sound = λ e. absurd (true≢false (sym e)); complete = λ p. absurd (not p) }
+
 -- the player whom an outcome names
 outcome-player : (x c : ℕ) → outcomeOf x ≡ some c → Player c
 unfolding outcomeOf Player
@@ -33,9 +41,9 @@ outcome-player x c e =
     (decided (eqb x white)))
     (decided (eqb x black))
 
--- what an answer that decides says
-pub decides-says : {r : Bool} {P : Type 0} → Decides r P → r ≡ true ↔ P
-decides-says d = (d .sound, d .complete)
+-- what two clauses promise
+pub two-ways : {r : Bool} {P : Type 0} → Decides r P → (r ≡ true → P) × (P → r ≡ true)
+two-ways d = (d .sound, d .complete)
 
 module _ (g : Game) where
   abbrev Ranged : ℕ → Type 0

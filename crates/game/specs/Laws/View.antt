@@ -1,10 +1,10 @@
 -- Laws of a state's view: a fresh state shows a fresh game and is true, every byte names a player, and when a history has room.
-use mathlib.Core.Path.{_≡_, refl, sym, ap, _∙_}
+use mathlib.Core.Path.{_≡_, refl, ap, _∙_}
 use mathlib.Core.Bool.{true, false}
 use mathlib.Core.List.{List}
-use mathlib.Core.Logic.{_↔_, _≢_, _⊎_, inl, inr, ⊎-elim}
-use mathlib.Core.Option.{none, some, Option·none-ne-some, Option·some-injective}
-use Prim.Native.Nat.{ℕ, _≤_, _<_}
+use mathlib.Core.Logic.{_≢_, inl, inr, ⊎-elim}
+use mathlib.Core.Option.{none, some, Option·none-ne-some}
+use Prim.Native.Nat.{ℕ, _≤_}
 use native.Mathlib.Omega.{arith}
 use lib.Dec.{eqb}
 use lib.ListN.{length}
@@ -14,7 +14,7 @@ use Rattle.rules.specs.Points.{area}
 use Rattle.rules.specs.Colours.{empty, black, white}
 use Rattle.rules.specs.Records.{capacity}
 use Rattle.rules.specs.Game as rules
-use Rattle.rules.specs.Laws.Lists.{decided, equal-or-not}
+use Rattle.rules.specs.Laws.Lists.{decided}
 use Rattle.rules.specs.Laws.Stones.{stones-none}
 use Rattle.board.specs.Board.{coloursOf, newBoard}
 use Rattle.board.specs.Laws.Chains.{true-colours}
@@ -35,18 +35,6 @@ ko-none x e = rw (eq-eqb x noPoint e)
 pub ko-some : (x : ℕ) → x ≢ noPoint → koOf x ≡ some x
 unfolding koOf
 ko-some x n = rw (ne-eqb x noPoint n)
-
--- no ko point, or one below the end, where the point is read as another number
-pub ko-says : (x point end : ℕ) → point ≡ x → ((x ≡ noPoint) ⊎ (point < end)) ↔ ((k : ℕ) → koOf x ≡ some k → k < end)
-ko-says x point end e = (
-  λ either k stands.
-      ⊎-elim (λ n. absurd (Option·none-ne-some k (sym (ko-none x n) ∙ stands)))
-      (λ a.
-      let same = Option·some-injective x k (sym (ko-some x a) ∙ stands) in
-      ⊎-elim (λ n. absurd (a n)) (λ l. omega (arith, same)) either)
-      (equal-or-not x noPoint),
-  λ on. ⊎-elim inl (λ a. let l = on x (ko-some x a) in inr (omega arith)) (equal-or-not x noPoint),
-)
 
 pub outcome-black : (x : ℕ) → x ≡ black → outcomeOf x ≡ some black
 unfolding outcomeOf
