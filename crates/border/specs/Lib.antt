@@ -1,4 +1,2 @@
--- The border: a game's facts in numbers alone, and what a replay in place gives.
-pub mod Facts
+-- The border: what a replay in place gives.
 pub mod InPlace
-pub mod Laws

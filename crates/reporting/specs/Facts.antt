@@ -8,7 +8,7 @@ use Rattle.rules.specs.Game as rules
 use Rattle.game.specs.declared.state.Game.{Game}
 use Rattle.game.specs.View.{noPoint, viewOf, TrueState}
 use Rattle.game.specs.Asks.{isOver}
-use Rattle.border.specs.declared.facts.Facts.{Facts}
+use Rattle.reporting.specs.declared.facts.Facts.{Facts}
 
 abbrev pub koNumber : Option ℕ → ℕ
 koNumber none = noPoint

@@ -14,8 +14,8 @@ use Rattle.game.specs.declared.state.Game.{Game}
 use Rattle.game.specs.declared.asks.Facts as asks
 use Rattle.game.specs.View.{noPoint, koOf, TrueState}
 use Rattle.game.specs.Asks as asked
-use Rattle.border.specs.declared.facts.Facts.{Facts}
-use Rattle.border.specs.Facts.{koNumber, Asked}
+use Rattle.reporting.specs.declared.facts.Facts.{Facts}
+use Rattle.reporting.specs.Facts.{koNumber, Asked}
 
 within : {n : ℕ} (o : Option ℕ) → ((p : ℕ) → o ≡ some p → p < n) → Within n o
 within none f = tt

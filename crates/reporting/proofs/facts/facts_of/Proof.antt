@@ -2,11 +2,11 @@
 use mathlib.Core.Path.{ap, _∙_}
 use Rattle.rules.specs.Answers.{number}
 use Rattle.game.specs.Asks as asked
-use Rattle.border.specs.Facts.{koNumber, outcomeNumber, noFacts, factsOf}
-use Rattle.border.specs.Laws.Facts.{ko-within, ko-told}
+use Rattle.reporting.specs.Facts.{koNumber, outcomeNumber, noFacts, factsOf}
+use Rattle.reporting.specs.Laws.Facts.{ko-within, ko-told}
 use borrow.Author.Needs.{needs}
-use Rattle.border.proofs.facts.samtrekhu_facts_of.Statement.{statement}
-use Rattle.border.proofs.facts.samtrekhu_facts_of.Tie as tie
+use Rattle.reporting.proofs.facts.facts_of.Statement.{statement}
+use Rattle.reporting.proofs.facts.facts_of.Tie as tie
 
 facts-of-requires : tie.Need-facts-of-requires
 facts-of-requires c κs = search needs
@@ -42,6 +42,6 @@ returns c =
           };
     }
 
-pub samtrekhu-facts-of-spec : {M : Type 1} → statement M
-samtrekhu-facts-of-spec =
+pub facts-of-spec : {M : Type 1} → statement M
+facts-of-spec =
     tie.close (tie.spec facts-of-requires ko-number-requires outcome-number-requires returns)
