@@ -3,7 +3,7 @@ use acting::act::act;
 use game::state::Game;
 use lines::command::MAX_LINE;
 use lines::command::MAX_SPOTS;
-use lines::read::read_line;
+use reading::line::read_line;
 use writing::put::put_byte;
 ghost use Rattle.answering.specs.Does.{Replies};
 

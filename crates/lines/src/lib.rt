@@ -1,3 +1,3 @@
-// Floor 5, the text of a call: one line of bytes is read as a command.
+// Floor 5, the text of a call: what a line can say, and the words behind its name.
 pub mod command;
 pub mod read;

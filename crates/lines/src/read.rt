@@ -1,7 +1,5 @@
-// One line is read as a command.
+// The words behind the name of a call are read.
 use crate::command::Fault;
-use crate::command::MAX_LINE;
-use crate::command::Name;
 use crate::command::Read;
 use crate::command::USUAL_LENT;
 use points::stones::BLACK;
@@ -21,64 +19,25 @@ use spelling::number::one_number;
 use spelling::number::three_numbers;
 use spelling::number::two_numbers;
 use spelling::words::next_word;
-use spelling::words::text_length;
 ghost use mathlib.Core.Path.{_≡_};
 ghost use Prim.Native.Nat.{_+_, _*_, _≤_};
 ghost use lib.ListN.{length, drop};
 ghost use Rattle.rules.specs.Lists.{same};
 ghost use Rattle.spelling.specs.Text.{words};
 ghost use Rattle.spelling.specs.Number.{numbers, byteOf};
-ghost use Rattle.lines.specs.Command.{nameOf, newOf, stoneOf, checkOf, legalsOf, resignOf, alone, handicapOf, called, given, meaning};
+ghost use Rattle.lines.specs.Command.{newOf, stoneOf, checkOf, legalsOf, resignOf, alone, handicapOf};
 ghost use Rattle.lines.specs.Command as commands;
 ghost use Rattle.lines.specs.Reads.{Reads};
 ghost use Rattle.lines.specs.Steps.{Plainly, Spotting, Spotted, Laying, Laid};
 
-const HASH: u8 = 35;
-
 // The word is this name.
-fn is_word(word: &[u8], name: &[u8]) -> bool
+pub fn is_word(word: &[u8], name: &[u8]) -> bool
     ensures { λ r. ⌜ r ≡ same (now (word .entry)) (now (name .entry)) ⌝ }
 {
     check::same(word, name)
 }
 
-fn name_of(word: &[u8]) -> Name
-    ensures { λ r. ⌜ r ≡ nameOf (now (word .entry)) ⌝ }
-{
-    if is_word(word, b"new") {
-        return Name::New;
-    }
-    if is_word(word, b"handicap") {
-        return Name::Handicap;
-    }
-    if is_word(word, b"stone") {
-        return Name::Stone;
-    }
-    if is_word(word, b"pass") {
-        return Name::Pass;
-    }
-    if is_word(word, b"resign") {
-        return Name::Resign;
-    }
-    if is_word(word, b"resume") {
-        return Name::Resume;
-    }
-    if is_word(word, b"check") {
-        return Name::Check;
-    }
-    if is_word(word, b"legals") {
-        return Name::Legals;
-    }
-    if is_word(word, b"state") {
-        return Name::State;
-    }
-    if is_word(word, b"render") {
-        return Name::Render;
-    }
-    Name::Other
-}
-
-fn read_new(text: &[u8], from: usize) -> Read
+pub fn read_new(text: &[u8], from: usize) -> Read
     requires { ⌜ from ≤ length (now text) ⌝ }
     ensures { λ r. ⌜ Plainly (newOf (numbers (words (drop from (now (text .entry)))))) r ⌝ }
 {
@@ -101,7 +60,7 @@ fn read_new(text: &[u8], from: usize) -> Read
     }
 }
 
-fn read_stone(text: &[u8], from: usize) -> Read
+pub fn read_stone(text: &[u8], from: usize) -> Read
     requires { ⌜ from ≤ length (now text) ⌝ }
     ensures { λ r. ⌜ Plainly (stoneOf (numbers (words (drop from (now (text .entry)))))) r ⌝ }
 {
@@ -111,7 +70,7 @@ fn read_stone(text: &[u8], from: usize) -> Read
     }
 }
 
-fn read_check(text: &[u8], from: usize) -> Read
+pub fn read_check(text: &[u8], from: usize) -> Read
     requires { ⌜ from ≤ length (now text) ⌝ }
     ensures { λ r. ⌜ Plainly (checkOf (numbers (words (drop from (now (text .entry)))))) r ⌝ }
 {
@@ -125,7 +84,7 @@ fn read_check(text: &[u8], from: usize) -> Read
     }
 }
 
-fn read_legals(text: &[u8], from: usize) -> Read
+pub fn read_legals(text: &[u8], from: usize) -> Read
     requires { ⌜ from ≤ length (now text) ⌝ }
     ensures { λ r. ⌜ Plainly (legalsOf (numbers (words (drop from (now (text .entry)))))) r ⌝ }
 {
@@ -147,7 +106,7 @@ fn read_player(word: &[u8]) -> Read
     Read::Wrong(Fault::Resign)
 }
 
-fn read_resign(text: &[u8], from: usize) -> Read
+pub fn read_resign(text: &[u8], from: usize) -> Read
     requires { ⌜ from ≤ length (now text) ⌝ }
     ensures { λ r. ⌜ Plainly (resignOf (words (drop from (now (text .entry))))) r ⌝ }
 {
@@ -223,7 +182,7 @@ fn lay_spots(text: &[u8], from: usize, spots: &mut [u16], count: usize)
 }
 
 // The numbers are counted before any spot is written, so that a line that is wrong leaves the buffer as it was.
-fn read_handicap(text: &[u8], from: usize, spots: &mut [u16]) -> Read
+pub fn read_handicap(text: &[u8], from: usize, spots: &mut [u16]) -> Read
     requires { ⌜ from ≤ length (now text) ⌝ }
     ensures { λ r. ⌜ Reads (handicapOf (numbers (words (drop from (now (text .entry)))))) (now (spots .entry)) r (now (spots .exit)) ⌝ }
 {
@@ -244,7 +203,7 @@ fn read_handicap(text: &[u8], from: usize, spots: &mut [u16]) -> Read
 }
 
 // A call with no words behind its name.
-fn read_alone(text: &[u8], from: usize, read: Read) -> Read
+pub fn read_alone(text: &[u8], from: usize, read: Read) -> Read
     requires { ⌜ from ≤ length (now text) ⌝ }
     ensures { λ r. ⌜ ((command : commands.Command) → Plainly command read → Plainly (alone command (words (drop from (now (text .entry))))) r) ⌝ }
 {
@@ -252,54 +211,4 @@ fn read_alone(text: &[u8], from: usize, read: Read) -> Read
         return read;
     }
     Read::Wrong(Fault::Alone)
-}
-
-// The words behind a name.
-fn read_behind(text: &[u8], name: Name, from: usize, spots: &mut [u16]) -> Read
-    requires { ⌜ from ≤ length (now text) ⌝ }
-    ensures { λ r. ⌜ Reads (called name (words (drop from (now (text .entry))))) (now (spots .entry)) r (now (spots .exit)) ⌝ }
-{
-    match name {
-        Name::New => read_new(text, from),
-        Name::Handicap => read_handicap(text, from, spots),
-        Name::Stone => read_stone(text, from),
-        Name::Pass => read_alone(text, from, Read::Pass),
-        Name::Resign => read_resign(text, from),
-        Name::Resume => read_alone(text, from, Read::Resume),
-        Name::Check => read_check(text, from),
-        Name::Legals => read_legals(text, from),
-        Name::State => read_alone(text, from, Read::State),
-        Name::Render => read_alone(text, from, Read::Render),
-        Name::Other => Read::Wrong(Fault::Unknown),
-    }
-}
-
-fn read_text(text: &[u8], spots: &mut [u16]) -> Read
-    ensures { λ r. ⌜ Reads (given (now (text .entry))) (now (spots .entry)) r (now (spots .exit)) ⌝ }
-{
-    if text.len() == 0 {
-        return Read::Echo;
-    }
-    if text[0] == HASH {
-        return Read::Echo;
-    }
-    let word = next_word(text, 0);
-    let start = word.start;
-    let end = word.end;
-    if start == end {
-        return Read::Wrong(Fault::Blank);
-    }
-    let name = name_of(&text[start..end]);
-    read_behind(text, name, end, spots)
-}
-
-// What a line says, without its line feed: any bytes at all. The spots of a handicap are put into the lent buffer.
-pub fn read_line(line: &[u8], spots: &mut [u16]) -> Read
-    ensures { λ r. ⌜ Reads (meaning (now (line .entry))) (now (spots .entry)) r (now (spots .exit)) ⌝ }
-{
-    let length = text_length(line);
-    if MAX_LINE < length {
-        return Read::Wrong(Fault::Long);
-    }
-    read_text(&line[..length], spots)
 }

@@ -20,9 +20,9 @@ use Rattle.spelling.specs.Number.{byteOf}
 use Rattle.lines.specs.Command.{Command, meaning}
 use Rattle.lines.specs.Command as commands
 use Rattle.lines.specs.Reads.{packed, told, laid, laidOver}
-use Rattle.lines.specs.Laws.Line.{echo-short}
-use Rattle.lines.specs.Laws.Few.{spotsIn, maxSpots}
-use Rattle.lines.specs.Laws.Capped.{new-capped, new-game-capped, check-capped, stone-capped, capped, handicap-capped, flags-capped, flags-same}
+use Rattle.reading.specs.Laws.Line.{echo-short}
+use Rattle.reading.specs.Laws.Few.{spotsIn, maxSpots}
+use Rattle.reading.specs.Laws.Capped.{new-capped, new-game-capped, check-capped, stone-capped, capped, handicap-capped, flags-capped, flags-same}
 use Rattle.writing.specs.Figures.{decimal}
 use Rattle.wording.specs.Replies.{points}
 use Rattle.telling.specs.Reply.{Reply, TrueDesk, Calls}

@@ -6,7 +6,7 @@ use lib.ListN.{length, take}
 use lib.Seq.{length-take-le}
 use Rattle.spelling.specs.Text.{textLength, textOf}
 use Rattle.lines.specs.Command.{maxLine}
-use Rattle.lines.specs.Laws.Line.{text-within}
+use Rattle.reading.specs.Laws.Line.{text-within}
 use Rattle.writing.specs.Laws.Put.{put-same}
 use Rattle.acting.specs.Laws.Says.{said-says}
 use borrow.Author.Needs.{needs}

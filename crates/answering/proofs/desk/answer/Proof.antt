@@ -7,7 +7,7 @@ use lib.ListN.{length, replicate, length-replicate}
 use Rattle.lines.specs.declared.command.Read.{Read}
 use Rattle.lines.specs.Command.{meaning}
 use Rattle.lines.specs.Reads.{told}
-use Rattle.lines.specs.Laws.Few.{maxSpots, meaning-few}
+use Rattle.reading.specs.Laws.Few.{maxSpots, meaning-few}
 use Rattle.writing.specs.Laws.Put.{put-then}
 use Rattle.telling.specs.Reply.{Reply}
 use Rattle.acting.specs.Acts.{Acts, Ready}

@@ -1,13 +1,13 @@
 -- `read_behind`: each name is read as its call.
 use mathlib.Core.Path.{refl}
 use Rattle.lines.specs.Command as commands
 use Rattle.lines.specs.Command.{called}
 use Rattle.lines.specs.Steps.{Plainly}
 use Rattle.lines.specs.declared.command.Fault.the-variants as faults
 use Rattle.lines.specs.Laws.Calls.{wrong-reads, pass-reads, resume-reads, state-reads, render-reads}
 use borrow.Author.Needs.{needs}
-use Rattle.lines.proofs.read.read_behind.Statement.{statement}
-use Rattle.lines.proofs.read.read_behind.Tie as tie
+use Rattle.reading.proofs.line.read_behind.Statement.{statement}
+use Rattle.reading.proofs.line.read_behind.Tie as tie
 
 enum-told : tie.Need-enum-told
 enum-told c = search needs

@@ -1,19 +1,19 @@
 -- `read_line`: a line that is not too long is read by its text.
 use mathlib.Core.Path.{sym, ap, _∙_, subst}
 use Rattle.spelling.specs.Text.{textOf}
 use Rattle.lines.specs.Command.{Command, given}
 use Rattle.lines.specs.Reads.{Reads}
 use Rattle.lines.specs.Steps.{Plainly}
 use Rattle.lines.specs.declared.command.Fault.the-variants as faults
 use Prim.Native.Nat.{ℕ}
 use lib.ListN.{take}
 use lib.Seq.{length-take-le}
 use native.Mathlib.Omega.{arith}
 use Rattle.lines.specs.Laws.Calls.{wrong-reads}
-use Rattle.lines.specs.Laws.Line.{text-within, meaning-long, meaning-text}
+use Rattle.reading.specs.Laws.Line.{text-within, meaning-long, meaning-text}
 use borrow.Author.Needs.{needs}
-use Rattle.lines.proofs.read.read_line.Statement.{statement}
-use Rattle.lines.proofs.read.read_line.Tie as tie
+use Rattle.reading.proofs.line.read_line.Statement.{statement}
+use Rattle.reading.proofs.line.read_line.Tie as tie
 
 text-length-requires : tie.Need-text-length-requires
 text-length-requires c κs = search needs

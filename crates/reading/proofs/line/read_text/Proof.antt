@@ -1,15 +1,15 @@
 -- `read_text`: the first byte, then the first word, then the words behind it.
 use mathlib.Core.Path.{sym, ap, _∙_, subst}
 use Rattle.lines.specs.Command.{Command, commandOf}
 use Rattle.lines.specs.Reads.{Reads}
 use Rattle.spelling.specs.Steps.{part}
 use Rattle.lines.specs.Steps.{Plainly}
 use Rattle.lines.specs.declared.command.Fault.the-variants as faults
 use Rattle.lines.specs.Laws.Calls.{wrong-reads}
-use Rattle.lines.specs.Laws.Line.{echo-reads, given-empty, given-hash, given-words, given-called}
+use Rattle.reading.specs.Laws.Line.{echo-reads, given-empty, given-hash, given-words, given-called}
 use borrow.Author.Needs.{needs}
-use Rattle.lines.proofs.read.read_text.Statement.{statement}
-use Rattle.lines.proofs.read.read_text.Tie as tie
+use Rattle.reading.proofs.line.read_text.Statement.{statement}
+use Rattle.reading.proofs.line.read_text.Tie as tie
 
 returns : tie.Need-returns
 unfolding Plainly

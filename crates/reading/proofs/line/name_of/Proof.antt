@@ -3,10 +3,10 @@ use mathlib.Core.Path.{_≡_, sym, _∙_}
 use mathlib.Core.Bool.{false}
 use Rattle.rules.specs.Lists.{same}
 use Rattle.spelling.specs.Text.{ascii}
 use Rattle.lines.specs.Command.{nameOf}
 use borrow.Author.Needs.{needs}
-use Rattle.lines.proofs.read.name_of.Statement.{statement}
-use Rattle.lines.proofs.read.name_of.Tie as tie
+use Rattle.reading.proofs.line.name_of.Statement.{statement}
+use Rattle.reading.proofs.line.name_of.Tie as tie
 
 -- the names that were asked for before
 not1 : (c : tie.Else1) → same (c .before .before .before .before .args .word .now) (ascii "new") ≡ false
