@@ -8,7 +8,7 @@ use checking::superko::superko_told;
 use game::calls::player_of;
 use game::judge::judge_with;
 use game::state::Game;
-use looking::look::near_at;
+use looking::look::look_at;
 use points::answers::ACCEPTED;
 use points::answers::DAMAGED;
 use points::answers::OFF_BOARD;
@@ -26,8 +26,10 @@ fn is_superko(game: Game, history: &[u8], point: usize) -> bool
     requires { ⌜ Asking game (length (now history)) point ⌝ }
     ensures { λ r. ⌜ r ≡ superkoOf (viewOf game) (now (history .entry)) point ⌝ }
 {
+    let sight = look_at(game.board, point);
+    let near = sight.near;
     let answer = superko_told(
-        near_at(game.board, point),
+        near,
         player_of(game.turn),
         is_ko_point(game.ko, point),
         game.records,

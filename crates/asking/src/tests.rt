@@ -7,11 +7,10 @@ use eyes::eye::is_eye;
 use game::calls::player_of;
 use game::judge::judge_state;
 use game::state::Game;
-use history::packing::colours_of;
 use legality::near::is_ko;
 use legality::near::is_suicide;
 use legality::near::will_capture as captures;
-use looking::look::near_at;
+use looking::look::look_at;
 use points::answers::ACCEPTED;
 use points::answers::DAMAGED;
 use points::answers::OFF_BOARD;
@@ -38,15 +37,13 @@ fn holds(game: Game, point: usize, test: Test) -> bool
     let height = game.board.height;
     let width = game.board.width;
     let colour = player_of(game.turn);
-    let around = near_at(game.board, point);
+    let sight = look_at(game.board, point);
+    let around = sight.near;
     match test {
         Test::Capture => captures(around, colour),
         Test::Suicide => is_suicide(around, colour),
         Test::Ko => is_ko(around, is_ko_point(game.ko, point)),
-        Test::Eye => {
-            let colours = colours_of(game.board);
-            is_eye(&colours, height, width, point, colour)
-        }
+        Test::Eye => is_eye(&sight.colours, height, width, point, colour),
     }
 }
 

@@ -1,5 +1,4 @@
 // What a stone of the player to move is answered at a point: on the board, empty, and the four tests by the flags.
-use crate::refusal::forbids_eye;
 use crate::refusal::told;
 use crate::spot::Spot;
 use crate::spot::spot_at;
@@ -9,16 +8,14 @@ use chains::group::index;
 use game::calls::player_of;
 use game::state::Game;
 use game::state::NO_POINT;
-use history::packing::colours_of;
 use legality::near::Near;
-use looking::look::near_at;
+use looking::look::look_at;
 use points::answers::ACCEPTED;
 use points::answers::OFF_BOARD;
 use points::answers::POINT_NOT_EMPTY;
 use points::answers::SUPER_KO;
 use points::coord::two_to_1dim;
 use points::sizes::MAX_AREA;
-use points::stones::EMPTY;
 ghost use mathlib.Core.Path.{_≡_};
 ghost use lib.ListN.{length};
 ghost use Rattle.rules.specs.Sizes.{maxArea};
@@ -79,24 +76,20 @@ pub fn told_of(
     }
 }
 
-// The answer of a true state whose history was judged too. Where no eye is asked for, nothing is read but what stands beside the point.
+// The answer of a true state whose history was judged too.
 pub fn point_answer(game: Game, history: &[u8], flags: u8, row: u8, column: u8) -> u8
     requires { ⌜ TrueState game × RoomIn game (length (now history)) ⌝ }
     ensures { λ r. ⌜ r ≡ number (pointAnswer (viewOf game) (now (history .entry)) flags row column) ⌝ }
 {
     let spot = spot_at(game.board, row, column);
     let point = two_to_1dim(game.board.width, row, column);
-    let near = near_at(game.board, point);
-    let mut colours = [EMPTY; MAX_AREA];
-    if forbids_eye(flags) {
-        let shown = colours_of(game.board);
-        colours = shown;
-    }
+    let sight = look_at(game.board, point);
+    let near = sight.near;
     let mover = player_of(game.turn);
     let answer = told_of(
         spot,
         near,
-        &colours,
+        &sight.colours,
         game.board.height,
         game.board.width,
         mover,

@@ -35,13 +35,6 @@ fn refuses_ko(near: Near, at_ko_point: bool, flags: u8) -> bool
     flags / 1 % 2 == 1 && is_ko(near, at_ko_point)
 }
 
-// The eye test is asked, and so the colours are wanted.
-pub fn forbids_eye(flags: u8) -> bool
-    ensures { λ r. ⌜ r ≡ forbids flags flag.FILLEYE ⌝ }
-{
-    flags / 4 % 2 == 1
-}
-
 fn refuses_eye(
     colours: &[u8; MAX_AREA],
     height: u8,
@@ -53,7 +46,7 @@ fn refuses_eye(
     requires { ⌜ length (now colours) ≡ maxArea ⌝ }
     ensures { λ r. ⌜ r ≡ forbids flags flag.FILLEYE && eye height width (now (colours .entry)) colour point ⌝ }
 {
-    forbids_eye(flags) && is_eye(colours, height, width, point, colour)
+    flags / 4 % 2 == 1 && is_eye(colours, height, width, point, colour)
 }
 
 // The first of the three tests that refuses, in the order of 01.

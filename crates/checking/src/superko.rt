@@ -2,11 +2,12 @@
 use game::calls::player_of;
 use game::state::Game;
 use history::lent::is_recorded;
-use history::packing::record_of;
+use history::packing::record_by;
 use laying::lay::lay;
 use legality::near::Near;
 use legality::near::is_ko;
 use legality::near::will_capture;
+use looking::look::look_at;
 use points::answers::ACCEPTED;
 use points::answers::SUPER_KO;
 ghost use mathlib.Core.Bool.{not, _&&_};
@@ -69,6 +70,7 @@ pub fn repeats(game: Game, history: &[u8], point: usize) -> bool
     ensures { λ r. ⌜ r ≡ recorded (now (history .entry)) (game .records) (resulting (viewOf game) point) ⌝ }
 {
     let laid = lay(game.board, point, player_of(game.turn), game.flags);
-    let bytes = record_of(laid.board);
+    let left = look_at(laid.board, point);
+    let bytes = record_by(laid.board.hash, &left.colours);
     is_recorded(history, game.records, &bytes)
 }

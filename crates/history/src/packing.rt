@@ -1,12 +1,8 @@
 // The record of a board: its hash low byte first, its colours four to a byte, one zero byte.
-use board::goban::Board;
-use chains::group::index;
-use points::coord::area;
 use points::sizes::COLOUR_BYTES;
 use points::sizes::HASH_BYTES;
 use points::sizes::MAX_AREA;
 use points::sizes::RECORD_BYTES;
-use points::sizes::SLOTS;
 use points::stones::EMPTY;
 ghost use mathlib.Core.Path.{_≡_};
 ghost use mathlib.Core.List.{_++_};
@@ -14,37 +10,11 @@ ghost use Prim.Native.Nat.{_+_, _*_, _<_};
 ghost use lib.ListN.{length, take, drop};
 ghost use Rattle.rules.specs.Sizes.{hashBytes, colourBytes, recordBytes, maxArea};
 ghost use Rattle.rules.specs.Colours.{at};
-ghost use Rattle.rules.specs.Records.{lowBytes, recordOf};
-ghost use Rattle.board.specs.Board.{coloursOf};
-ghost use Rattle.board.specs.True.{TrueBoard};
-ghost use Rattle.history.specs.Packing.{onLargest, colourPart, recordBy, Packing};
-
-// The colours of the points, each read once; what lies beyond the board is empty.
-pub fn colours_of(board: Board) -> [u8; MAX_AREA]
-    ensures { λ r. ⌜ r ≡ onLargest (coloursOf board) ⌝ }
-{
-    let mut limit = MAX_AREA;
-    let points = area(board.height, board.width);
-    if points < MAX_AREA {
-        limit = points;
-    }
-    let mut colours = [EMPTY; MAX_AREA];
-    let mut p = 0;
-    while p < limit {
-        let owner = index(board.owners[p]);
-        let mut colour = EMPTY;
-        if owner < SLOTS {
-            let chain = board.chains[owner];
-            colour = chain.colour;
-        }
-        colours[p] = colour;
-        p += 1;
-    }
-    colours
-}
+ghost use Rattle.rules.specs.Records.{lowBytes};
+ghost use Rattle.history.specs.Packing.{colourPart, recordBy, Packing};
 
 // The colour of a point: beyond the largest board nothing stands.
-pub fn colour_at(colours: &[u8; MAX_AREA], point: usize) -> u8
+fn colour_at(colours: &[u8; MAX_AREA], point: usize) -> u8
     requires { ⌜ length (now colours) ≡ maxArea ⌝ }
     ensures { λ r. ⌜ r ≡ at (now (colours .entry)) point ⌝ }
 {
@@ -102,13 +72,4 @@ pub fn record_by(hash: u64, colours: &[u8; MAX_AREA]) -> [u8; RECORD_BYTES]
     write_hash(&mut bytes, hash);
     write_colours(&mut bytes, colours);
     bytes
-}
-
-// The record of a true board.
-pub fn record_of(board: Board) -> [u8; RECORD_BYTES]
-    requires { ⌜ TrueBoard board ⌝ }
-    ensures { λ r. ⌜ r ≡ recordOf (coloursOf board) ⌝ }
-{
-    let colours = colours_of(board);
-    record_by(board.hash, &colours)
 }

@@ -5,11 +5,12 @@ use Prim.Native.Nat.{ℕ, _≤_, _<_}
 use lib.ListN.{length, getD}
 use Rattle.rules.specs.Sizes.{maxArea}
 use Rattle.rules.specs.Lists.{tabulate}
-use Rattle.rules.specs.Colours.{empty, at}
+use Rattle.rules.specs.Colours.{empty}
 use Rattle.rules.specs.Points.{area, neighbours}
 use Rattle.rules.specs.Chain.{size, liberties}
 use Rattle.chains.specs.declared.group.Chain.{Chain}
 use Rattle.sets.specs.Liberties.{number}
+use Rattle.history.specs.Packing.{onLargest}
 use Rattle.legality.specs.declared.near.Near.{Near}
 use Rattle.legality.specs.declared.near.Beside.{Beside}
 use Rattle.legality.specs.Near.{inFour, ofStone}
@@ -26,7 +27,7 @@ nothing = record { colour = empty; liberties = 0; stones = 0 }
 unfoldable pub seenOf : ℕ → ℕ → List ℕ → Seen
 seenOf h w cols =
     record {
-      colours = tabulate (at cols) 0 maxArea;
+      colours = onLargest cols;
       liberties = tabulate (ofStone cols (liberties h w cols)) 0 maxArea;
       stones = tabulate (ofStone cols (size h w cols)) 0 maxArea;
     }

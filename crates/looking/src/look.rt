@@ -5,6 +5,7 @@ use chains::group::Chain;
 use chains::group::index;
 use legality::near::Beside;
 use legality::near::Near;
+use points::coord::area;
 use points::coord::neighbours;
 use points::sizes::MAX_AREA;
 use points::sizes::SLOTS;
@@ -13,6 +14,7 @@ use sets::liberties::number_of_liberties;
 ghost use mathlib.Core.Path.{_≡_};
 ghost use Rattle.board.specs.Board.{coloursOf};
 ghost use Rattle.board.specs.True.{TrueBoard};
+ghost use Rattle.history.specs.Packing.{onLargest};
 ghost use Rattle.legality.specs.Near.{nearOf};
 ghost use Rattle.looking.specs.Seen.{chainSeen, nothing, seenOf, Counted, Shows, nearIn};
 
@@ -21,6 +23,12 @@ pub struct Seen {
     pub colours: [u8; MAX_AREA],
     pub liberties: [u16; MAX_AREA],
     pub stones: [u16; MAX_AREA],
+}
+
+// What is seen of a board for a stone at a point: what stands beside it, and the colours of all points.
+pub struct Sight {
+    pub near: Near,
+    pub colours: [u8; MAX_AREA],
 }
 
 // What is seen of a chain.
@@ -125,17 +133,18 @@ pub fn near(
     }
 }
 
-// What stands beside a point of a true board. No other point is read.
-pub fn near_at(board: Board, point: usize) -> Near
+// What a true board shows for a stone at a point. Both loops stand here, since a function for each would copy the board once more.
+pub fn look_at(board: Board, point: usize) -> Sight
     requires { ⌜ TrueBoard board ⌝ }
-    ensures { λ r. ⌜ r ≡ nearOf (board .height) (board .width) (coloursOf board) point ⌝ }
+    ensures near { λ r. ⌜ r .near ≡ nearOf (board .height) (board .width) (coloursOf board) point ⌝ }
+    ensures colours { λ r. ⌜ r .colours ≡ onLargest (coloursOf board) ⌝ }
 {
     let around = neighbours(board.height, board.width, point);
     let beside = around.points;
     let count = around.count;
-    let mut colours = [0u8; 4];
-    let mut liberties = [0u16; 4];
-    let mut stones = [0u16; 4];
+    let mut near_colours = [0u8; 4];
+    let mut near_liberties = [0u16; 4];
+    let mut near_stones = [0u16; 4];
     let mut side = 0;
     while side < count {
         let q = index(beside[side]);
@@ -145,15 +154,32 @@ pub fn near_at(board: Board, point: usize) -> Near
             let chain = chain_seen(board.chains[owner]);
             seen = chain;
         }
-        colours[side] = seen.colour;
-        liberties[side] = seen.liberties;
-        stones[side] = seen.stones;
+        near_colours[side] = seen.colour;
+        near_liberties[side] = seen.liberties;
+        near_stones[side] = seen.stones;
         side += 1;
     }
-    Near {
+    let points = area(board.height, board.width);
+    let mut colours = [EMPTY; MAX_AREA];
+    let mut p = 0;
+    while p < points {
+        let owner = index(board.owners[p]);
+        let mut colour = EMPTY;
+        if owner < SLOTS {
+            let chain = board.chains[owner];
+            colour = chain.colour;
+        }
+        colours[p] = colour;
+        p += 1;
+    }
+    let near = Near {
         count: count,
+        colours: near_colours,
+        liberties: near_liberties,
+        stones: near_stones,
+    };
+    Sight {
+        near: near,
         colours: colours,
-        liberties: liberties,
-        stones: stones,
     }
 }

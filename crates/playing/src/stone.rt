@@ -13,11 +13,9 @@ use game::judge::judge_with;
 use game::state::Game;
 use history::lent::is_recorded;
 use history::lent::note_board;
-use history::packing::colours_of;
 use history::packing::record_by;
-use history::packing::record_of;
 use laying::lay::lay;
-use looking::look::near_at;
+use looking::look::look_at;
 use points::answers::ACCEPTED;
 use points::answers::DAMAGED;
 use points::answers::GAME_PAUSED;
@@ -69,13 +67,13 @@ pub fn play(game: Game, history: &mut [u8], row: u8, column: u8) -> Answered
 {
     let spot = spot_at(game.board, row, column);
     let point = two_to_1dim(game.board.width, row, column);
-    let near = near_at(game.board, point);
-    let colours = colours_of(game.board);
+    let sight = look_at(game.board, point);
+    let near = sight.near;
     let mover = player_of(game.turn);
     let told = told_of(
         spot,
         near,
-        &colours,
+        &sight.colours,
         game.board.height,
         game.board.width,
         mover,
@@ -93,10 +91,11 @@ pub fn play(game: Game, history: &mut [u8], row: u8, column: u8) -> Answered
     let laid = lay(game.board, point, mover, game.flags);
     let mut again = false;
     if is_undecided(told) {
-        let left = record_of(laid.board);
-        again = is_recorded(history, game.records, &left);
+        let left = look_at(laid.board, point);
+        let record = record_by(laid.board.hash, &left.colours);
+        again = is_recorded(history, game.records, &record);
     }
-    let bytes = record_by(game.board.hash, &colours);
+    let bytes = record_by(game.board.hash, &sight.colours);
     let last = last_answer(again, game.accepted, no_room(history, game.records, &bytes));
     if last != ACCEPTED {
         return Answered {

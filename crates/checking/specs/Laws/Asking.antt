@@ -12,7 +12,7 @@ use Rattle.rules.specs.Lists.{any}
 use Rattle.rules.specs.Points.{index, neighbours}
 use Rattle.rules.specs.Colours.{empty, other, at}
 use Rattle.rules.specs.Records.{recorded}
-use Rattle.rules.specs.Flags.{SUICIDE, FILLEYE, forbids}
+use Rattle.rules.specs.Flags.{SUICIDE, forbids}
 use Rattle.rules.specs.Tests.{inAtari, suicide, ko, eye, captures, superko}
 use Rattle.rules.specs.Answers.{OffBoard, PointNotEmpty, number, accepts}
 use Rattle.rules.specs.Calls.{offBoard, taken, resulting, forbiddenAnswer, pointAnswer}
@@ -37,7 +37,7 @@ use Rattle.checking.specs.Told.{atKo, toldOf, toldNear, toldSpot, settle
 use Rattle.checking.specs.Asking.{Asking, Repeating, ToldAt}
 use Rattle.checking.specs.Laws.Spot.{Free, off-outside, stone-taken, empty-free, free-on, free-empty}
 use Rattle.checking.specs.Laws.Near.{own-suicide, its-ko, own-captures, own-eye}
-use Rattle.checking.specs.Laws.Told.{told-settled, told-eye, told-captures}
+use Rattle.checking.specs.Laws.Told.{told-settled, told-captures}
 
 -- ---- A capture may be laid
 
@@ -91,10 +91,10 @@ module _ (g : Game) (bytes : List ℕ) (flags r c : ℕ) (s : Spot) (found : s �
 
 -- ---- What the tests tell
 
--- e is what the eye test says, where it is asked
+-- e is what the eye test says
 module _ (g : Game) (flags p : ℕ) (n : Near) (near : n ≡ nearOf (g .board .height) (g .board .width) (coloursOf (g .board)) p)
     (own : ℕ) (mover : own ≡ turnOf (g .turn)) (k : Bool) (at-ko : k ≡ atKo (g .ko) p)
-    (e : Bool) (eyed : forbids flags FILLEYE ≡ true → e ≡ eye (g .board .height) (g .board .width) (coloursOf (g .board)) (turnOf (g .turn)) p)
+    (e : Bool) (eyed : e ≡ eye (g .board .height) (g .board .width) (coloursOf (g .board)) (turnOf (g .turn)) p)
     (t : Told) (told :
     t ≡ toldOf flags (not (any (saves own) (besides n))) (k && not (any catchesMore (besides n))) e (any (caught (other own)) (besides n)) (g .records)) where
   abbrev h : ℕ
@@ -110,9 +110,7 @@ module _ (g : Game) (flags p : ℕ) (n : Near) (near : n ≡ nearOf (g .board .h
       (captures h w cols (turnOf (g .turn)) p) (g .records)
   by-rules =
       told
-      ∙ (λ i. toldOf flags (own-suicide g p n near own mover i) (its-ko g p n near k at-ko i) e (own-captures g p n near own mover i) (g .records))
-      ∙ told-eye flags (suicide h w cols (turnOf (g .turn)) p) (ko h w cols (koOf (g .ko)) p) (captures h w cols (turnOf (g .turn)) p) (g .records) e
-      (eye h w cols (turnOf (g .turn)) p) eyed
+      ∙ (λ i. toldOf flags (own-suicide g p n near own mover i) (its-ko g p n near k at-ko i) (eyed i) (own-captures g p n near own mover i) (g .records))
 
   pub told-forbidden : (bytes : List ℕ) → settled t (recorded bytes (g .records) (resulting (viewOf g) p)) ≡ number (forbiddenAnswer (viewOf g) bytes flags p)
   unfolding viewOf forbiddenAnswer superko
@@ -129,16 +127,15 @@ module _ (g : Game) (flags p : ℕ) (n : Near) (near : n ≡ nearOf (g .board .h
 
 -- ---- What is told of a row and a column
 
--- the colours count where the eye test is asked
 module _ (g : Game) (flags r c : ℕ) (is : TrueBoard (g .board)) (s : Spot) (found : s ≡ spotOf (g .board .height) (g .board .width) (coloursOf (g .board)) r c)
     (n : Near) (near : n ≡ nearOf (g .board .height) (g .board .width) (coloursOf (g .board)) (index (g .board .width) r c))
-    (cs : List ℕ) (wanted : forbids flags FILLEYE ≡ true → cs ≡ onLargest (coloursOf (g .board))) (own : ℕ) (mover : own ≡ turnOf (g .turn)) where
+    (cs : List ℕ) (seen : cs ≡ onLargest (coloursOf (g .board))) (own : ℕ) (mover : own ≡ turnOf (g .turn)) where
   abbrev there : ℕ → Told
   there = toldNear flags n cs (g .board .height) (g .board .width) own (g .ko) (g .records)
 
-  eyed : (p : ℕ) → forbids flags FILLEYE ≡ true
+  eyed : (p : ℕ)
       → eye (g .board .height) (g .board .width) cs own p ≡ eye (g .board .height) (g .board .width) (coloursOf (g .board)) (turnOf (g .turn)) p
-  eyed p f = own-eye g p is cs (wanted f) own mover
+  eyed p = own-eye g p is cs seen own mover
 
   told-empty : (p : ℕ) → s ≡ Empty p → ToldAt g flags r c (there p)
   unfolding toldNear

@@ -3,25 +3,23 @@ use mathlib.Core.Bool.{Bool, true, false, cond, not, _&&_}
 use mathlib.Core.List.{List}
 use mathlib.Core.Option.{none, some}
 use mathlib.Core.Path.{_≡_, refl, sym, ap, _∙_, subst}
-use Prim.Native.Nat.{ℕ, _≤_}
+use Prim.Native.Nat.{ℕ}
 use lib.Dec.{eqb}
-use lib.ListN.{length}
-use Rattle.rules.specs.Sizes.{maxArea}
 use Rattle.rules.specs.Lists.{any}
 use Rattle.rules.specs.Colours.{other}
 use Rattle.rules.specs.Tests.{suicide, isKoPoint, ko, eye, captures}
 use Rattle.board.specs.declared.goban.Board.{Board}
 use Rattle.board.specs.Board.{coloursOf}
 use Rattle.board.specs.True.{TrueBoard}
-use Rattle.board.specs.Laws.Board.{area-fits, length-colours}
+use Rattle.board.specs.Laws.Board.{area-fits}
 use Rattle.history.specs.Packing.{onLargest}
-use Rattle.history.specs.Laws.Packing.{at-onLargest}
 use Rattle.legality.specs.declared.near.Near.{Near}
 use Rattle.looking.specs.declared.look.Seen.{Seen}
 use Rattle.legality.specs.Near.{nearOf, besides, saves, catchesMore, caught}
 use Rattle.looking.specs.Seen.{seenOf, Shows, nearIn}
 use Rattle.legality.specs.Laws.Near.{suicide-near, ko-near, captures-near}
 use Rattle.looking.specs.Laws.Seen.{seen-shows, near-seen}
+use Rattle.looking.specs.Laws.Sight.{sight-at}
 use Rattle.eyes.specs.Laws.Eye.{eye-same}
 use Rattle.game.specs.declared.state.Game.{Game}
 use Rattle.game.specs.View.{noPoint, turnOf, koOf}
@@ -39,9 +37,6 @@ atKo-point h w cols x p = go (eqb x noPoint)
 
 -- ---- What a true board shows
 
-pub colours-fit : (b : Board) → TrueBoard b → length (coloursOf b) ≤ maxArea
-colours-fit b is = rw (length-colours b) (area-fits (is .table .size))
-
 module _ (b : Board) (is : TrueBoard b) (s : Seen) (read : s ≡ seenOf (b .height) (b .width) (coloursOf b)) where
   pub read-shows : Shows (b .height) (b .width) (s .colours) (s .liberties) (s .stones)
   read-shows =
@@ -54,7 +49,7 @@ module _ (b : Board) (is : TrueBoard b) (s : Seen) (read : s ≡ seenOf (b .heig
       ∙ near-seen (b .height) (b .width) (coloursOf b) (area-fits (is .table .size)) p
 
   pub read-colours : s .colours ≡ onLargest (coloursOf b)
-  unfolding seenOf onLargest
+  unfolding seenOf
   read-colours = ap (λ (x : Seen). x .colours) read
 
 -- ---- The four
@@ -84,6 +79,5 @@ module _ (g : Game) (p : ℕ) where
   pub own-eye : TrueBoard (g .board) → (cs : List ℕ) → cs ≡ onLargest cols → (own : ℕ) → own ≡ turnOf (g .turn)
       → eye h w cs own p ≡ eye h w cols (turnOf (g .turn)) p
   own-eye is cs read own mover =
-      ap (λ (x : List ℕ). eye h w x own p) read
-      ∙ eye-same h w (onLargest cols) cols own (λ q on. at-onLargest cols (colours-fit (g .board) is) q) p
+      eye-same h w cs cols own (λ q on. sight-at (g .board) is cs read q) p
       ∙ ap (λ (c : ℕ). eye h w cols c p) mover

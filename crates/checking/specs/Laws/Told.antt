@@ -51,21 +51,6 @@ told-settled flags suicide ko eye captures records again =
     go false false false false last test e = refl
     go false false false true last test e = e
 
--- the eye is looked at only where it is forbidden to fill it
-pub told-eye : (flags : ℕ) (suicide ko captures : Bool) (records : ℕ) (eye eye′ : Bool) → (forbids flags FILLEYE ≡ true → eye ≡ eye′)
-    → toldOf flags suicide ko eye captures records ≡ toldOf flags suicide ko eye′ captures records
-unfolding toldOf
-told-eye flags suicide ko captures records eye eye′ same =
-    ap
-    (λ (e : Bool).
-    let first = firstRefusal (forbids flags SUICIDE && suicide) (forbids flags KO && ko) e in
-    cond (accepts first) (cond (forbids flags SUPERKO) (superkoTold captures ko records) (Answer (number answers.Accepted))) (Answer (number first)))
-    (go (forbids flags FILLEYE) same)
-  where
-    go : (t : Bool) → (t ≡ true → eye ≡ eye′) → t && eye ≡ t && eye′
-    go true e = e refl
-    go false e = refl
-
 -- ---- As it is told
 
 module _ (flags : ℕ) (suicide ko eye captures : Bool) (records first : ℕ)

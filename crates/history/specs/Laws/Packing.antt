@@ -1,44 +1,19 @@
--- Laws of Packing: the colours of a true board fill two bits each, the packed bytes are the rules' and so is the whole record.
+-- Laws of Packing: the colours of the largest board's points are packed as the board's own, and a record is made of its parts.
 use mathlib.Core.Path.{_≡_, sym, ap, ap₂, _∙_, fun-ext}
 use mathlib.Core.List.{List, [], _∷_, _++_}
 use mathlib.Core.Logic.{⊎-elim}
-use Prim.Native.Nat.{ℕ, _+_, _*_, _/_, _%_, _^_, _≤_, _<_}
+use Prim.Native.Nat.{ℕ, _+_, _*_, _/_, _%_, _^_, _≤_}
 use native.Mathlib.Omega.{arith}
 use lib.Dec.{ltb}
-use lib.ListN.{length, getD, take, drop, replicate, List·getD-eq-default}
-use lib.Seq.{take-at, drop-at, drop-drop, getD-take, length-take-le, ext-getD}
+use lib.ListN.{length, take, drop, replicate, List·getD-eq-default}
+use lib.Seq.{take-at, drop-at, drop-drop}
 use borrow.Author.Tests.{ltb-true, ltb-false}
-use Rattle.rules.specs.Sizes.{maxArea, slots, hashBytes, colourBytes, recordBytes}
+use Rattle.rules.specs.Sizes.{maxArea, hashBytes, colourBytes, recordBytes}
 use Rattle.rules.specs.Lists.{tabulate}
 use Rattle.rules.specs.Colours.{empty, at}
-use Rattle.rules.specs.Points.{area}
-use Rattle.rules.specs.Game.{Player}
-use Rattle.rules.specs.Records.{lowBytes, fourColours, recordOf}
-use Rattle.rules.specs.Laws.Lists.{decided, equal-or-not, length-tabulate, getD-tabulate-zero, getD-tabulate-beyond, getD-default}
-use Rattle.chains.specs.declared.group.Chain.{Chain}
-use Rattle.chains.specs.Group.{freeChain}
-use Rattle.board.specs.declared.goban.Board.{Board}
-use Rattle.board.specs.Board.{owner, chainIn, colourAt, coloursOf}
-use Rattle.board.specs.True.{Shaped, ExactTable}
-use Rattle.board.specs.Laws.Board.{area-fits, length-colours, at-colours, empty-unowned, owned-player}
-use Rattle.history.specs.Packing.{onLargest, colourPart, recordBy, Packing}
-
--- ---- A colour, read through owner and chain
-
-module _ (b : Board) (shape : Shaped b) (p : ℕ) (on : p < area (b .height) (b .width)) (low : p < maxArea) (o : ℕ) (its : o ≡ getD (b .owners) p 0) where
-  through : at (coloursOf b) p ≡ chainIn b o .colour
-  unfolding at coloursOf colourAt owner
-  through =
-      getD-tabulate-zero (colourAt b) (area (b .height) (b .width)) p empty on
-      ∙ ap (λ (s : ℕ). chainIn b s .colour) (sym (its ∙ getD-default (b .owners) p 0 slots (omega (arith, shape .owners))))
-
-  pub owned-colour : o < slots → (d : Chain) → getD (b .chains) o d .colour ≡ at (coloursOf b) p
-  unfolding chainIn
-  owned-colour l d = ap (λ (c : Chain). c .colour) (getD-default (b .chains) o d freeChain (omega (arith, shape .chains))) ∙ sym through
-
-  pub unowned-colour : slots ≤ o → empty ≡ at (coloursOf b) p
-  unfolding chainIn freeChain
-  unowned-colour l = sym (through ∙ ap (λ (c : Chain). c .colour) (List·getD-eq-default (b .chains) freeChain {n = o} (omega (arith, shape .chains))))
+use Rattle.rules.specs.Records.{lowBytes, fourColours}
+use Rattle.rules.specs.Laws.Lists.{decided, length-tabulate, getD-tabulate-zero, getD-tabulate-beyond}
+use Rattle.history.specs.Packing.{onLargest, colourPart, recordBy}
 
 -- ---- The colours of the largest board's points
 
@@ -54,19 +29,6 @@ at-onLargest cols fits p =
     let off = ltb-false p maxArea f in
     getD-tabulate-beyond (at cols) 0 maxArea p empty off ∙ sym (List·getD-eq-default cols empty {n = p} (omega arith)))
     (decided (ltb p maxArea))
-
--- the board's own come first, and the rest is empty
-pub onLargest-front : (cols : List ℕ) → length cols ≤ maxArea → take (length cols) (onLargest cols) ≡ cols
-unfolding at
-onLargest-front cols fits =
-    let long : length (take (length cols) (onLargest cols)) ≡ length cols =
-    length-take-le (length cols) (onLargest cols) (rw (length-onLargest cols) fits) in
-    ext-getD 0 (take (length cols) (onLargest cols)) cols long
-    (λ p l. getD-take (length cols) (onLargest cols) p 0 (rw long at l) ∙ at-onLargest cols fits p)
-
-pub onLargest-rest : (cols : List ℕ) → length cols ≤ maxArea → (p : ℕ) → length cols ≤ p → at (onLargest cols) p ≡ empty
-unfolding at
-onLargest-rest cols fits p beyond = at-onLargest cols fits p ∙ List·getD-eq-default cols empty {n = p} beyond
 
 -- they are packed as the board's own
 four-onLargest : (cols : List ℕ) → length cols ≤ maxArea → (i : ℕ) → fourColours (onLargest cols) i ≡ fourColours cols i
@@ -97,23 +59,3 @@ module _ (hash : ℕ) (bytes : List ℕ) (e : bytes ≡ lowBytes hashBytes hash 
   pub record-long : length bytes ≡ recordBytes
   unfolding lowBytes
   record-long = ap length e
-
--- ---- The record of a true board
-
-module _ (b : Board) (is : ExactTable b) where
-  fits : length (coloursOf b) ≤ maxArea
-  fits = rw (length-colours b) (area-fits (is .size))
-
-  small : (p : ℕ) → at (coloursOf b) p < 4
-  unfolding Player
-  small p =
-      rw (at-colours b is p)
-      (⊎-elim (λ e. rw (empty-unowned b is p e) (omega arith))
-      (λ n. ⊎-elim (λ e. omega arith) (λ e. omega arith) (owned-player b is p n)) (equal-or-not (owner b p) slots))
-
-  pub packing : Packing (onLargest (coloursOf b))
-  packing = record { long = length-onLargest (coloursOf b); small = λ p. rw (at-onLargest (coloursOf b) fits p) (small p) }
-
-  pub record-board : recordBy (b .hash) (onLargest (coloursOf b)) ≡ recordOf (coloursOf b)
-  unfolding recordBy colourPart recordOf
-  record-board = ap₂ (λ (x : ℕ) (part : List ℕ). lowBytes hashBytes x ++ (part ++ (0 ∷ []))) (is .hashed) (part-onLargest (coloursOf b) fits)

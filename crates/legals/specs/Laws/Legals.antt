@@ -10,7 +10,6 @@ use borrow.Author.Tests.{eqb-true, eq-eqb}
 use Rattle.rules.specs.Lists.{any}
 use Rattle.rules.specs.Points.{area, row, column}
 use Rattle.rules.specs.Colours.{empty, other, at}
-use Rattle.rules.specs.Flags.{FILLEYE, forbids}
 use Rattle.rules.specs.Tests.{eye}
 use Rattle.rules.specs.Records.{recorded}
 use Rattle.rules.specs.Answers as answers
@@ -23,11 +22,11 @@ use Rattle.rules.specs.Laws.Answers.{accepts-zero}
 use Rattle.listing.specs.Laws.Answers.{length-enough}
 use Rattle.board.specs.Board.{coloursOf}
 use Rattle.board.specs.True.{TrueBoard}
-use Rattle.history.specs.Laws.Packing.{at-onLargest}
 use Rattle.looking.specs.declared.look.Seen.{Seen}
 use Rattle.legality.specs.declared.near.Near.{Near}
 use Rattle.legality.specs.Near.{besides, saves, catchesMore, caught}
 use Rattle.looking.specs.Seen.{seenOf, nearIn}
+use Rattle.looking.specs.Laws.Sight.{sight-at}
 use Rattle.game.specs.declared.state.Game.{Game}
 use Rattle.game.specs.View.{turnOf, viewOf, TrueState, RoomIn}
 use Rattle.checking.specs.declared.spot.Spot.the-variants.{Stone, Empty}
@@ -37,7 +36,7 @@ use Rattle.checking.specs.Told.{atKo, toldOf, toldNear, settled, undecided}
 use Rattle.checking.specs.Spot.{spotOf}
 use Rattle.checking.specs.Asking.{Asking, Repeating}
 use Rattle.checking.specs.Laws.Spot.{spot-of}
-use Rattle.checking.specs.Laws.Near.{colours-fit, read-near, read-colours, own-eye}
+use Rattle.checking.specs.Laws.Near.{read-near, read-colours, own-eye}
 use Rattle.checking.specs.Laws.Asking.{stone-answer, empty-answer, told-forbidden, told-repeating}
 use Rattle.legals.specs.Legals.{toldAt, settledFree, refused}
 
@@ -86,14 +85,13 @@ module _ (g : Game) (is : TrueBoard (g .board)) (flags p : ℕ) (on : p < area (
   abbrev tests : Told
   tests = toldNear flags (nearIn h w (s .colours) (s .liberties) (s .stones) p) (s .colours) h w own (g .ko) (g .records) p
 
-  eyed : forbids flags FILLEYE ≡ true → eye h w (s .colours) own p ≡ eye h w cols (turnOf (g .turn)) p
-  eyed _ = own-eye g p is _ (read-colours (g .board) is s read) own mover
+  eyed : eye h w (s .colours) own p ≡ eye h w cols (turnOf (g .turn)) p
+  eyed = own-eye g p is _ (read-colours (g .board) is s read) own mover
 
   by-colour : (free : Bool) → eqb (at cols p) empty ≡ free → t ≡ cond free tests (Answer (number answers.PointNotEmpty))
   unfolding toldAt
   by-colour free e =
-      let shown : at (s .colours) p ≡ at cols p =
-      ap (λ (cs : List ℕ). at cs p) (read-colours (g .board) is s read) ∙ at-onLargest cols (colours-fit (g .board) is) p in
+      let shown : at (s .colours) p ≡ at cols p = sight-at (g .board) is _ (read-colours (g .board) is s read) p in
       told ∙ ap (λ (b : Bool). cond b tests (Answer (number answers.PointNotEmpty))) (ap (λ (k : ℕ). eqb k empty) shown ∙ e)
 
   spot-by : (free : Bool) → eqb (at cols p) empty ≡ free → spotOf h w cols (row w p) (column w p) ≡ cond free (Empty p) Stone

@@ -17,6 +17,8 @@ use Rattle.sets.specs.Liberties.{number}
 use Rattle.board.specs.declared.goban.Board.{Board}
 use Rattle.board.specs.Board.{owner, chainIn}
 use Rattle.board.specs.True.{ExactChain, TrueBoard}
+use Rattle.history.specs.Packing.{onLargest}
+use Rattle.history.specs.Laws.Packing.{length-onLargest}
 use Rattle.legality.specs.Near.{inFour, ofStone, nearOf}
 use Rattle.looking.specs.Seen.{chainSeen, seenOf, Counted, Shows, nearIn}
 use Rattle.looking.specs.Laws.Table.{libertiesAt, liberties-told}
@@ -32,13 +34,13 @@ module _ (h w : ℕ) (cols : List ℕ) (fits : area h w ≤ maxArea) where
   seen-shows =
       record {
         fits = fits;
-        coloured = length-tabulate (at cols) 0 maxArea;
+        coloured = length-onLargest cols;
         breathing = length-tabulate (ofStone cols (liberties h w cols)) 0 maxArea;
         counted = length-tabulate (ofStone cols (size h w cols)) 0 maxArea;
       }
 
   pub near-seen : (p : ℕ) → nearIn h w (seenOf h w cols .colours) (seenOf h w cols .liberties) (seenOf h w cols .stones) p ≡ nearOf h w cols p
-  unfolding seenOf nearIn nearOf
+  unfolding seenOf onLargest nearIn nearOf
   near-seen p =
       λ i.
       record {

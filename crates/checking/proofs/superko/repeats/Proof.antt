@@ -1,15 +1,16 @@
 -- `repeats`: the board that is laid is the rules' resulting one, so its record is the one that the rules look for.
-use mathlib.Core.Path.{ap, _∙_}
+use mathlib.Core.Path.{_≡_, ap, _∙_}
 use Prim.Native.Nat.{ℕ}
 use lib.ListN.{length}
 use borrow.Author.Needs.{needs}
-use Rattle.rules.specs.Records.{capacity, recorded}
+use Rattle.rules.specs.Records.{recordOf, capacity, recorded}
 use Rattle.rules.specs.Move.{played}
 use Rattle.rules.specs.Calls.{resulting}
 use Rattle.rules.specs.Laws.Records.{length-record}
 use Rattle.board.specs.Board.{coloursOf}
 use Rattle.history.specs.History.{among}
 use Rattle.history.specs.Laws.History.{among-recorded}
+use Rattle.looking.specs.Laws.Sight.{sight-packing, sight-record}
 use Rattle.game.specs.View.{RoomIn, viewOf}
 use Rattle.checking.specs.Laws.Asking.{repeating-laying}
 use Rattle.checking.proofs.superko.repeats.Statement.{statement}
@@ -21,23 +22,36 @@ player-of-requires c κs = search needs
 lay-requires : tie.Need-lay-requires
 lay-requires c κs = repeating-laying _ _ _ (c .before .before .pre) _ (c .player-of .ensures)
 
-record-of-requires : tie.Need-record-of-requires
-record-of-requires c κs = search needs
+look-at-requires : tie.Need-look-at-requires
+look-at-requires c κs = search needs
+
+record-by-requires : tie.Need-record-by-requires
+record-by-requires c κs =
+    let looked = c .before .before in
+    sight-packing (looked .before .lay .result .board) (looked .before .lay .ensures .board) _ (looked .look-at .ensures .1)
+
+-- the record of the board that is laid
+left-record : (c : tie.After-record-by) → c .record-by .result ≡ recordOf (coloursOf (c .before .before .before .before .lay .result .board))
+left-record c =
+    let looked = c .before .before .before in
+    let laid = looked .before in
+    c .record-by .ensures ∙ sight-record (laid .lay .result .board) (laid .lay .ensures .board) _ (looked .look-at .ensures .1)
 
 is-recorded-requires : tie.Need-is-recorded-requires
 unfolding RoomIn capacity
 is-recorded-requires c κs =
-    let start = c .before .before .before .before .before in
-    record { within = start .pre .asking .room; long = ap length (c .before .record-of .ensures) ∙ length-record _ }
+    let written = c .before in
+    let start = written .before .before .before .before .before .before .before in
+    record { within = start .pre .asking .room; long = ap length (left-record written) ∙ length-record _ }
 
 returns : tie.Need-returns
 unfolding resulting viewOf
 returns c =
     let written = c .before .before in
-    let laid = written .before in
+    let laid = written .before .before .before .before in
     let a = laid .before .before .before .args in
     c .is-recorded .ensures
-    ∙ ap (among (a .history .now) (a .game .records)) (written .record-of .ensures)
+    ∙ ap (among (a .history .now) (a .game .records)) (left-record written)
     ∙ among-recorded (a .history .now) (a .game .records) _
     ∙ ap (recorded (a .history .now) (a .game .records))
     (laid .lay .ensures .colours
@@ -46,4 +60,4 @@ returns c =
 pub repeats-spec : {M : Type 1} → statement M
 repeats-spec =
     tie.close
-    (tie.spec player-of-requires lay-requires record-of-requires is-recorded-requires returns)
+    (tie.spec player-of-requires lay-requires look-at-requires record-by-requires is-recorded-requires returns)

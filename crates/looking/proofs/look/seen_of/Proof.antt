@@ -1,52 +1,26 @@
 -- `looking::look::seen_of`: after some turns the first places hold what the first points show. The measure is what is left of the places.
-use mathlib.Core.Path.{_≡_, refl, sym, ap, _∙_, subst}
+use mathlib.Core.Path.{_≡_, sym, ap, _∙_, subst}
 use mathlib.Core.List.{List}
 use mathlib.Core.Logic.{⊎-elim}
-use Prim.Native.Nat.{ℕ, _+_, _-_, _≤_, _<_}
+use Prim.Native.Nat.{ℕ, _-_, _≤_, _<_}
 use native.Mathlib.Omega.{arith}
-use lib.ListN.{length, getD, set, length-set}
-use lib.Seq.{getD-set-same, getD-set-other, ext-getD}
-use borrow.Author.Count.{below-none, below-more}
 use borrow.Author.Needs.{needs}
 use Rattle.rules.specs.Sizes.{maxArea, slots}
 use Rattle.rules.specs.Lists.{tabulate}
 use Rattle.rules.specs.Colours.{at}
-use Rattle.rules.specs.Laws.Lists.{length-tabulate, getD-tabulate-zero}
 use Rattle.chains.specs.declared.group.Chain.{Chain}
 use Rattle.board.specs.declared.goban.Board.{Board}
 use Rattle.board.specs.Board.{owner, chainIn, coloursOf}
+use Rattle.history.specs.Packing.{onLargest}
 use Rattle.legality.specs.declared.near.Beside.{Beside}
 use Rattle.looking.specs.Seen.{chainSeen, seenOf, Counted}
 use Rattle.looking.specs.Laws.Table.{libertiesAt, stonesAt, owner-read, chain-read, nothing-read, colour-told, liberties-told, stones-told}
 use Rattle.looking.specs.Laws.Seen.{first-counted}
+use Rattle.looking.proofs.Points.{Upto, none-yet, more, whole}
 use Rattle.looking.proofs.look.seen_of.Statement.{statement}
 use Rattle.looking.proofs.look.seen_of.Tie as tie
 
--- ---- One array
-
--- the first n places hold what f says
-record Upto (f : ℕ → ℕ) (xs : List ℕ) (n : ℕ) : Type 0 where
-  long : length xs ≡ maxArea
-  read : (k : ℕ) → k < n → getD xs k 0 ≡ f k
-
-more : (f : ℕ → ℕ) (xs : List ℕ) (n v : ℕ) → Upto f xs n → n < maxArea → v ≡ f n → Upto f (set xs n v) (n + 1)
-more f xs n v done h e =
-    record {
-      long = length-set xs n v ∙ done .long;
-      read =
-          below-more (λ k. getD (set xs n v) k 0 ≡ f k) n (λ k l. getD-set-other xs n k v 0 (λ s. omega arith) ∙ done .read k l)
-          (getD-set-same xs n v 0 (omega (arith, done .long)) ∙ e);
-    }
-
-whole : (f : ℕ → ℕ) (xs : List ℕ) (n : ℕ) → Upto f xs n → maxArea ≤ n → xs ≡ tabulate f 0 maxArea
-whole f xs n done h =
-    ext-getD 0 xs (tabulate f 0 maxArea) (done .long ∙ sym (length-tabulate f 0 maxArea))
-    (λ k l.
-    let low : k < maxArea = omega (arith, done .long) in
-    done .read k (omega arith) ∙ sym (getD-tabulate-zero f maxArea k 0 low))
-
--- ---- The three of them
-
+-- what the three arrays hold
 record Seeing (b : Board) (cs ls ss : List ℕ) (n : ℕ) : Type 0 where
   within : n ≤ maxArea
   colours : Upto (at (coloursOf b)) cs n
@@ -79,9 +53,9 @@ loop-holds : tie.Need-loop-holds Inv-loop μ-loop
 loop-holds c =
     record {
       within = omega arith;
-      colours = record { long = refl; read = below-none _ };
-      liberties = record { long = refl; read = below-none _ };
-      stones = record { long = refl; read = below-none _ };
+      colours = none-yet _;
+      liberties = none-yet _;
+      stones = none-yet _;
     }
 
 mul-index : tie.Need-mul-index Inv-loop μ-loop
@@ -154,17 +128,18 @@ loop-again c =
     }
 
 returns : tie.Need-returns Inv-loop μ-loop
-unfolding seenOf
+unfolding seenOf onLargest
 returns c =
     let loop = c .before in
     let b = loop .before .args .t1 in
     let inv = loop .loop .inv in
-    let end = c .loop-test .left in
+    let all : (f : ℕ → ℕ) (xs : List ℕ) → Upto f xs (loop .loop .point) → xs ≡ tabulate f 0 maxArea =
+    λ f xs done. whole f xs _ done (λ k beyond low. absurd (omega (arith, c .loop-test .left))) in
     λ i.
     record {
-      colours = whole (at (coloursOf b)) _ _ (inv .colours) end i;
-      liberties = whole (libertiesAt b) _ _ (inv .liberties) end i;
-      stones = whole (stonesAt b) _ _ (inv .stones) end i;
+      colours = all (at (coloursOf b)) _ (inv .colours) i;
+      liberties = all (libertiesAt b) _ (inv .liberties) i;
+      stones = all (stonesAt b) _ (inv .stones) i;
     }
 
 pub seen-of-spec : {M : Type 1} → statement M

@@ -12,9 +12,8 @@ use Rattle.rules.specs.Game.{Player}
 use Rattle.rules.specs.Laws.Lists.{not-both}
 use Rattle.rules.specs.Laws.Records.{length-record}
 use Rattle.board.specs.Board.{coloursOf}
-use Rattle.history.specs.Packing.{onLargest, recordBy}
-use Rattle.history.specs.Laws.Packing.{length-onLargest, packing, record-board}
 use Rattle.legality.specs.Near.{nearOf}
+use Rattle.looking.specs.Laws.Sight.{sight-long, sight-packing, sight-record}
 use Rattle.game.specs.View.{viewOf, RoomIn}
 use Rattle.game.specs.Laws.View.{turn-player}
 use Rattle.checking.specs.Told.{known, undecided}
@@ -31,19 +30,22 @@ use Rattle.playing.proofs.stone.play.Tie as tie
 abbrev granted : tie.After-other → tie.Else3
 granted c = c .before .before .before .before .before .before
 
-abbrev noted : tie.After-no-room → tie.After-record-by
+abbrev noted : tie.After-no-room → tie.After-record-by2
 noted c = c .before .before .before
 
-abbrev lain : tie.After-record-by → tie.After-lay
-lain c = c .before .before .before .before
+abbrev joined : tie.After-record-by2 → tie.Joined2
+joined c = c .before .before .before
+
+abbrev lain : tie.After-record-by2 → tie.After-lay
+lain c = joined c .before .before
 
 abbrev toldBy : tie.After-first-answer → tie.After-told-of
 toldBy c = c .before .before
 
 abbrev mover : tie.After-told-of → tie.After-player-of
-mover c = c .before .before
+mover c = c .before .before .before
 
-abbrev looked : tie.After-told-of → tie.After-near-at
+abbrev looked : tie.After-told-of → tie.After-look-at
 looked c = mover c .before .before
 
 abbrev begin : tie.After-told-of → tie.Start
@@ -64,8 +66,8 @@ told c =
     let board = a .game .board in
     let seen = looked c in
     told-at (a .game) (a .game .flags) (a .row) (a .column) (s .pre .0 .board) _ (seen .before .before .spot-at .ensures)
-    _ (seen .near-at .ensures ∙ ap (nearOf (board .height) (board .width) (coloursOf board)) (seen .before .two-to-1dim .ensures))
-    _ (λ _. mover c .before .colours-of .ensures) _ (mover c .player-of .ensures) _ (c .told-of .ensures)
+    _ (seen .look-at .ensures .0 ∙ ap (nearOf (board .height) (board .width) (coloursOf board)) (seen .before .two-to-1dim .ensures))
+    _ (seen .look-at .ensures .1) _ (mover c .player-of .ensures) _ (c .told-of .ensures)
 
 first : (c : tie.After-first-answer) → c .first-answer .result ≡ firstAnswer (begin (toldBy c) .args .game .passes) (known (toldBy c .told-of .result))
 first c = c .first-answer .ensures ∙ ap (firstAnswer (begin (toldBy c) .args .game .passes)) (c .before .known-answer .ensures)
@@ -76,17 +78,17 @@ spot-at-requires c κs = c .before .pre .0 .board
 two-to-1dim-requires : tie.Need-two-to-1dim-requires
 two-to-1dim-requires c κs = search needs
 
-near-at-requires : tie.Need-near-at-requires
-near-at-requires c κs = c .before .before .before .pre .0 .board
-
-colours-of-requires : tie.Need-colours-of-requires
-colours-of-requires c κs = search needs
+look-at-requires : tie.Need-look-at-requires
+look-at-requires c κs = c .before .before .before .pre .0 .board
 
 player-of-requires : tie.Need-player-of-requires
 player-of-requires c κs = search needs
 
 told-of-requires : tie.Need-told-of-requires
-told-of-requires c κs = ap length (c .before .before .colours-of .ensures) ∙ length-onLargest _
+told-of-requires c κs =
+    let seen = c .before .before .before .before in
+    let s = seen .before .before .before .before in
+    sight-long (s .args .game .board) (s .pre .0 .board) _ (seen .look-at .ensures .1)
 
 known-answer-requires : tie.Need-known-answer-requires
 known-answer-requires c κs = search needs
@@ -115,14 +117,27 @@ lay-requires c κs =
 is-undecided-requires : tie.Need-is-undecided-requires
 is-undecided-requires c κs = search needs
 
-record-of-requires : tie.Need-record-of-requires
-record-of-requires c κs = c .before .before .lay .ensures .board
+look-at-requires-2 : tie.Need-look-at-requires-2
+look-at-requires-2 c κs = c .before .before .lay .ensures .board
+
+record-by-requires : tie.Need-record-by-requires
+record-by-requires c κs =
+    let left = c .before .before in
+    let laid = left .before .before .before in
+    sight-packing (laid .lay .result .board) (laid .lay .ensures .board) _ (left .look-at2 .ensures .1)
+
+-- the record of the board that it leaves
+left-record : (c : tie.After-record-by) → c .record-by .result ≡ recordOf (coloursOf (c .before .before .before .before .before .before .lay .result .board))
+left-record c =
+    let left = c .before .before .before in
+    let laid = left .before .before .before in
+    c .record-by .ensures ∙ sight-record (laid .lay .result .board) (laid .lay .ensures .board) _ (left .look-at2 .ensures .1)
 
 is-recorded-requires : tie.Need-is-recorded-requires
 unfolding RoomIn capacity
 is-recorded-requires c κs =
     let written = c .before .before in
-    record { within = start (written .before .before .before) .pre .1; long = ap length (written .record-of .ensures) ∙ length-record _ }
+    record { within = start (written .before .before .before .before .before .before) .pre .1; long = ap length (left-record written) ∙ length-record _ }
 
 -- the board that it leaves is looked for where the records decide
 found : (c : tie.Joined2)
@@ -139,10 +154,11 @@ found c =
     ⊎-elim
     (λ w. (
       λ _.
-          w .5
-          ∙ w .4 .ensures
+          w .8
+          ∙ w .7 .ensures
           ∙ left-found (s .args .game) (s .args .history .now) (s .args .row) (s .args .column) (s .pre .0) (s .pre .1) (laid .lay .result)
-          (looked t .before .two-to-1dim .ensures) (mover t .player-of .ensures) (laid .lay .ensures) (w .1 .ensures),
+          (looked t .before .two-to-1dim .ensures) (mover t .player-of .ensures) (laid .lay .ensures)
+          (w .4 .ensures ∙ sight-record (laid .lay .result .board) (laid .lay .ensures .board) _ (w .1 .ensures .1)),
       λ n. absurd (not-both (sym said ∙ w .0 .taken) n),
     ))
     (λ w. (λ y. absurd (not-both y (sym said ∙ w .0 .left)), λ _. w .1))
@@ -150,20 +166,18 @@ found c =
 
 -- ---- The last tests
 
-record-by-requires : tie.Need-record-by-requires
-record-by-requires c κs =
-    let t = asked (c .before .before .before) in
+record-by-requires-2 : tie.Need-record-by-requires-2
+record-by-requires-2 c κs =
+    let t = asked (c .before .before .before .before) in
     let s = begin t in
-    rw (mover t .before .colours-of .ensures) (packing (s .args .game .board) (s .pre .0 .board .table))
+    sight-packing (s .args .game .board) (s .pre .0 .board) _ (looked t .look-at .ensures .1)
 
 -- the record of the present board, by the colours that were read
-its-record : (c : tie.After-record-by) → c .record-by .result ≡ recordOf (coloursOf (start (lain c) .args .game .board))
+its-record : (c : tie.After-record-by2) → c .record-by2 .result ≡ recordOf (coloursOf (start (lain c) .args .game .board))
 its-record c =
     let t = asked (lain c) in
     let s = begin t in
-    c .record-by .ensures
-    ∙ ap (recordBy (s .args .game .board .hash)) (mover t .before .colours-of .ensures)
-    ∙ record-board (s .args .game .board) (s .pre .0 .board .table)
+    c .record-by2 .ensures ∙ sight-record (s .args .game .board) (s .pre .0 .board) _ (looked t .look-at .ensures .1)
 
 no-room-requires : tie.Need-no-room-requires
 unfolding RoomIn capacity
@@ -178,7 +192,7 @@ room-told :
     let a = start (lain (noted c)) .args in full (a .history .now) (a .game .records) (coloursOf (a .game .board)) ≡ c .no-room .result
 room-told c =
     let a = start (lain (noted c)) .args in
-    sym (c .no-room .ensures ∙ full-by (a .history .now) (a .game .records) (noted c .record-by .result) (coloursOf (a .game .board)) (its-record (noted c)))
+    sym (c .no-room .ensures ∙ full-by (a .history .now) (a .game .records) (noted c .record-by2 .result) (coloursOf (a .game .board)) (its-record (noted c)))
 
 last-answer-requires : tie.Need-last-answer-requires
 last-answer-requires c κs = search needs
@@ -189,25 +203,25 @@ same-length c = search needs
 returns-2 : tie.Need-returns-2
 returns-2 c =
     let room = c .before .before in
-    let joined = noted room .before .before in
+    let j = joined (noted room) in
     let e = lain (noted room) .before in
     let f = e .before in
     let t = toldBy f in
     let s = begin t in
     last-refuses (s .args .game) (s .args .history .now) (s .args .row) (s .args .column) (s .pre .0) (s .pre .1) (t .told-of .result) (told t)
-    (f .first-answer .result) (first f) (e .if1 .left) (joined .if2 .again) (found joined .0) (found joined .1)
+    (f .first-answer .result) (first f) (e .if1 .left) (j .if2 .again) (found j .0) (found j .1)
     (room .no-room .result) (room-told room) (c .before .last-answer .result) (c .before .last-answer .ensures) (c .if3 .taken)
 
 allowed : (c : tie.Else3) → let a = start (lain (noted (c .before .before))) .args in Allowed (a .game) (a .history .now) (a .row) (a .column)
 allowed c =
     let room = c .before .before in
-    let joined = noted room .before .before in
+    let j = joined (noted room) in
     let e = lain (noted room) .before in
     let f = e .before in
     let t = toldBy f in
     let s = begin t in
     last-allows (s .args .game) (s .args .history .now) (s .args .row) (s .args .column) (s .pre .0) (s .pre .1) (t .told-of .result) (told t)
-    (f .first-answer .result) (first f) (e .if1 .left) (joined .if2 .again) (found joined .0) (found joined .1)
+    (f .first-answer .result) (first f) (e .if1 .left) (j .if2 .again) (found j .0) (found j .1)
     (room .no-room .result) (room-told room) (c .before .last-answer .result) (c .before .last-answer .ensures) (c .if3 .left)
 
 -- ---- The stone is stored
@@ -242,8 +256,8 @@ put-after-requires c κs =
     let s = begin t in
     (true-few _ (s .pre .0) .1, subst Player (sym (mover t .player-of .ensures)) (turn-player (s .args .game .turn)))
 
-add-t44 : tie.Need-add-t44
-add-t44 c =
+add-t47 : tie.Need-add-t47
+add-t47 c =
     let few = allowed (granted (c .before .before .before .before .before .before .before)) .more in
     record { fits = omega arith }
 
@@ -274,8 +288,7 @@ play-spec =
     (tie.spec
     spot-at-requires
     two-to-1dim-requires
-    near-at-requires
-    colours-of-requires
+    look-at-requires
     player-of-requires
     told-of-requires
     known-answer-requires
@@ -283,9 +296,10 @@ play-spec =
     returns
     lay-requires
     is-undecided-requires
-    record-of-requires
-    is-recorded-requires
+    look-at-requires-2
     record-by-requires
+    is-recorded-requires
+    record-by-requires-2
     no-room-requires
     last-answer-requires
     same-length
@@ -295,6 +309,6 @@ play-spec =
     ko-number-requires
     held-after-requires
     put-after-requires
-    add-t44
+    add-t47
     same-length-2
     returns-3)
