@@ -1,56 +1,53 @@
--- The state after an accepted pass, resignation and resume, as the code leaves it.
+-- The numbers after an accepted pass, resignation and resume, as the code leaves them.
 use Prim.Native.Nat.{ℕ, _+_}
-use Rattle.game.specs.declared.state.Game.{Game}
+use Rattle.game.specs.declared.clock.Clock.{Clock}
 use Rattle.game.specs.View.{noPoint}
 
 -- it is the turn of the player whom the byte names
-unfoldable pub passed : Game → ℕ → Game
-passed g turn =
+unfoldable pub passed : Clock → ℕ → Clock
+passed c turn =
     record {
-      board = g .board;
-      flags = g .flags;
+      flags = c .flags;
       turn = turn;
-      passes = g .passes + 1;
-      outcome = g .outcome;
+      passes = c .passes + 1;
+      outcome = c .outcome;
       begun = 1;
       ko = noPoint;
-      handicap = g .handicap;
-      accepted = g .accepted;
-      held = g .held;
-      put = g .put;
-      records = g .records;
+      handicap = c .handicap;
+      accepted = c .accepted;
+      held = c .held;
+      put = c .put;
+      records = c .records;
     }
 
-unfoldable pub resigned : Game → ℕ → Game
-resigned g player =
+unfoldable pub resigned : Clock → ℕ → Clock
+resigned c player =
     record {
-      board = g .board;
-      flags = g .flags;
-      turn = g .turn;
-      passes = g .passes;
+      flags = c .flags;
+      turn = c .turn;
+      passes = c .passes;
       outcome = player;
       begun = 1;
-      ko = g .ko;
-      handicap = g .handicap;
-      accepted = g .accepted;
-      held = g .held;
-      put = g .put;
-      records = g .records;
+      ko = c .ko;
+      handicap = c .handicap;
+      accepted = c .accepted;
+      held = c .held;
+      put = c .put;
+      records = c .records;
     }
 
-unfoldable pub resumed : Game → Game
-resumed g =
+unfoldable pub resumed : Clock → Clock
+resumed c =
     record {
-      board = g .board;
-      flags = g .flags;
-      turn = g .turn;
+      flags = c .flags;
+      turn = c .turn;
       passes = 0;
-      outcome = g .outcome;
-      begun = g .begun;
-      ko = g .ko;
-      handicap = g .handicap;
-      accepted = g .accepted;
-      held = g .held;
-      put = g .put;
-      records = g .records;
+      outcome = c .outcome;
+      begun = c .begun;
+      ko = c .ko;
+      handicap = c .handicap;
+      accepted = c .accepted;
+      held = c .held;
+      put = c .put;
+      records = c .records;
     }

@@ -6,7 +6,10 @@ use mathlib.Core.Logic.{_≢_}
 use Prim.Native.Nat.{ℕ}
 use Rattle.rules.specs.Answers.{Damaged, number}
 use Rattle.rules.specs.Calls.{Result, newAnswer, newGame}
+use Rattle.board.specs.declared.goban.Board.{Board}
 use Rattle.game.specs.declared.state.Game.{Game}
+use Rattle.game.specs.declared.clock.Clock.{Clock}
+use Rattle.game.specs.Clock.{gameOf}
 use Rattle.game.specs.View.{viewOf, TrueState}
 
 -- a call that was lent history: `is` is what makes the state and the history true
@@ -34,3 +37,7 @@ pub record CalledAlone (call : Result) (g : Game) (answer : ℕ) (g′ : Game) :
   pub shown : TrueState g → viewOf g′ ≡ call .game
   pub kept : TrueState g → TrueState g′
   pub refused : answer ≢ 0 → g′ ≡ g
+
+-- such a call on the numbers alone, whatever board they make a true state with
+pub record Ticks (call : Game → Result) (c : Clock) (answer : ℕ) (c′ : Clock) : Type 0 where
+  pub ticked : (b : Board) → TrueState (gameOf b c) → CalledAlone (call (gameOf b c)) (gameOf b c) answer (gameOf b c′)

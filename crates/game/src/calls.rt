@@ -1,4 +1,7 @@
 // The calls that need no history: a new game, pass, resign, resume. Each asks nothing of the state that it gets.
+use crate::clock::Clock;
+use crate::clock::clock_of;
+use crate::clock::game_of;
 use crate::judge::judge_state;
 use crate::state::Game;
 use crate::state::NO_POINT;
@@ -18,13 +21,19 @@ use points::stones::other;
 ghost use mathlib.Core.Path.{_≡_};
 ghost use mathlib.Core.List.{[]};
 ghost use Rattle.rules.specs.Calls as rules;
-ghost use Rattle.game.specs.View.{turnOf, viewOf, TrueState, freshState};
-ghost use Rattle.game.specs.Promise.{Made, CalledAlone};
+ghost use Rattle.game.specs.View.{turnOf, viewOf, freshState};
+ghost use Rattle.game.specs.Promise.{Made, CalledAlone, Ticks};
 
 #[repr(C)]
 pub struct Answered {
     pub answer: u8,
     pub game: Game,
+}
+
+// What a call gives that leaves the board alone: the answer, and the numbers.
+pub struct Ticked {
+    pub answer: u8,
+    pub clock: Clock,
 }
 
 // The player whom a byte names.
@@ -92,59 +101,57 @@ pub fn new_game(height: u8, width: u8, flags: u8) -> Answered
     }
 }
 
-// The three calls on a state that is known to be true, so that a row of calls judges it once.
-pub fn pass_true(game: Game) -> Answered
-    requires { ⌜ TrueState game ⌝ }
-    ensures { λ r. ⌜ CalledAlone (rules.pass (viewOf game) []) game (r .answer) (r .game) ⌝ }
+// The three calls on the numbers alone: their promise is for every board with which these make a true state, so that a row of calls judges
+// once and copies no board. More than two passes make none; the test for two takes them too, so that the sum is a byte.
+pub fn passed(clock: Clock) -> Ticked
+    ensures { λ r. ⌜ Ticks (λ g. rules.pass (viewOf g) []) clock (r .answer) (r .clock) ⌝ }
 {
-    if game.passes == 2 {
-        return Answered {
+    if 2 <= clock.passes {
+        return Ticked {
             answer: GAME_PAUSED,
-            game: game,
+            clock: clock,
         };
     }
-    let mover = player_of(game.turn);
+    let mover = player_of(clock.turn);
     let next = other(mover);
-    let mut after = game;
+    let mut after = clock;
     after.turn = next;
-    after.passes = game.passes + 1;
+    after.passes = clock.passes + 1;
     after.ko = NO_POINT;
     after.begun = 1;
-    Answered {
+    Ticked {
         answer: ACCEPTED,
-        game: after,
+        clock: after,
     }
 }
 
 // The outcome names the player that the byte names.
-pub fn resign_true(game: Game, player: u8) -> Answered
-    requires { ⌜ TrueState game ⌝ }
-    ensures { λ r. ⌜ CalledAlone (rules.resign (viewOf game) [] (turnOf player)) game (r .answer) (r .game) ⌝ }
+pub fn resigned(clock: Clock, player: u8) -> Ticked
+    ensures { λ r. ⌜ Ticks (λ g. rules.resign (viewOf g) [] (turnOf player)) clock (r .answer) (r .clock) ⌝ }
 {
-    if game.passes == 2 {
-        return Answered {
+    if 2 <= clock.passes {
+        return Ticked {
             answer: GAME_PAUSED,
-            game: game,
+            clock: clock,
         };
     }
-    let mut after = game;
+    let mut after = clock;
     after.outcome = player_of(player);
     after.begun = 1;
-    Answered {
+    Ticked {
         answer: ACCEPTED,
-        game: after,
+        clock: after,
     }
 }
 
-pub fn resume_true(game: Game) -> Answered
-    requires { ⌜ TrueState game ⌝ }
-    ensures { λ r. ⌜ CalledAlone (rules.resume (viewOf game) []) game (r .answer) (r .game) ⌝ }
+pub fn resumed(clock: Clock) -> Ticked
+    ensures { λ r. ⌜ Ticks (λ g. rules.resume (viewOf g) []) clock (r .answer) (r .clock) ⌝ }
 {
-    let mut after = game;
+    let mut after = clock;
     after.passes = 0;
-    Answered {
+    Ticked {
         answer: ACCEPTED,
-        game: after,
+        clock: after,
     }
 }
 
@@ -158,7 +165,12 @@ pub fn pass(game: Game) -> Answered
             game: game,
         };
     }
-    pass_true(game)
+    let ticked = passed(clock_of(game));
+    let after = game_of(game.board, ticked.clock);
+    Answered {
+        answer: ticked.answer,
+        game: after,
+    }
 }
 
 pub fn resign(game: Game, player: u8) -> Answered
@@ -170,7 +182,12 @@ pub fn resign(game: Game, player: u8) -> Answered
             game: game,
         };
     }
-    resign_true(game, player)
+    let ticked = resigned(clock_of(game), player);
+    let after = game_of(game.board, ticked.clock);
+    Answered {
+        answer: ticked.answer,
+        game: after,
+    }
 }
 
 pub fn resume(game: Game) -> Answered
@@ -182,5 +199,10 @@ pub fn resume(game: Game) -> Answered
             game: game,
         };
     }
-    resume_true(game)
+    let ticked = resumed(clock_of(game));
+    let after = game_of(game.board, ticked.clock);
+    Answered {
+        answer: ticked.answer,
+        game: after,
+    }
 }

@@ -1,8 +1,12 @@
--- The state is damaged, or the call on a true state answers.
+-- The state is damaged, or the call on its numbers answers.
+use mathlib.Core.List.{[]}
 use borrow.Author.Tests.{not-true, not-false}
 use Rattle.rules.specs.Answers.{number}
+use Rattle.rules.specs.Calls.{pass}
 use Rattle.rules.specs.Laws.Lists.{not-both}
+use Rattle.game.specs.View.{viewOf}
 use Rattle.game.specs.Laws.Promise.{alone-damaged}
+use Rattle.game.specs.Laws.After.{alone-ticked}
 use borrow.Author.Needs.{needs}
 use Rattle.game.proofs.calls.pass.Statement.{statement}
 use Rattle.game.proofs.calls.pass.Tie as tie
@@ -14,11 +18,21 @@ returns : tie.Need-returns
 unfolding number
 returns c = alone-damaged _ _ (λ is. not-both (c .before .judge-state .ensures .1 is) (not-true _ (c .if1 .taken)))
 
-pass-true-requires : tie.Need-pass-true-requires
-pass-true-requires c κs = c .before .judge-state .ensures .0 (not-false _ (c .if1 .left))
+clock-of-requires : tie.Need-clock-of-requires
+clock-of-requires c κs = search needs
+
+passed-requires : tie.Need-passed-requires
+passed-requires c κs = search needs
+
+game-of-requires : tie.Need-game-of-requires
+game-of-requires c κs = search needs
 
 returns-2 : tie.Need-returns-2
-returns-2 c = c .pass-true .ensures
+returns-2 c =
+    let ticked = c .before in
+    let read = ticked .before in
+    let judged = read .before in
+    alone-ticked _ (λ g. pass (viewOf g) []) (judged .before .judge-state .ensures .0 (not-false _ (judged .if1 .left))) (read .clock-of .ensures) (ticked .passed .ensures) (c .game-of .ensures)
 
 pub pass-spec : {M : Type 1} → statement M
-pass-spec = tie.close (tie.spec judge-state-requires returns pass-true-requires returns-2)
+pass-spec = tie.close (tie.spec judge-state-requires returns clock-of-requires passed-requires game-of-requires returns-2)
