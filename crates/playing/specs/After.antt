@@ -1,14 +1,20 @@
--- The numbers and the state that a stone and a handicap leave, as the code makes them.
+-- The numbers that a stone leaves and the state that a handicap does, as the code makes them.
 use mathlib.Core.Path.{_≡_}
 use mathlib.Core.Bool.{cond}
-use Prim.Native.Nat.{ℕ, _+_, _≤_}
+use Prim.Native.Nat.{ℕ, _+_, _≤_, _<_}
 use lib.Dec.{eqb}
 use Rattle.rules.specs.Sizes.{maxArea, maxStones}
-use Rattle.rules.specs.Colours.{black, white}
+use Rattle.rules.specs.Colours.{black, white, other}
+use Rattle.rules.specs.Answers.{Accepted, number}
 use Rattle.rules.specs.Calls.{oneIf}
+use Rattle.points.specs.declared.coord.Place.{Place}
+use Rattle.points.specs.Place.{placeOf, Within}
 use Rattle.board.specs.declared.goban.Board.{Board}
 use Rattle.game.specs.declared.state.Game.{Game}
 use Rattle.game.specs.declared.state.Tally.{Tally}
+use Rattle.game.specs.declared.clock.Clock.{Clock}
+use Rattle.game.specs.declared.calls.Ticked.{Ticked}
+use Rattle.game.specs.View.{noPoint, turnOf, koOf}
 
 -- no more than a game can put down
 pub record Few (t : Tally) : Type 0 where
@@ -32,24 +38,40 @@ pub record PutAfter (put : Tally) (mover : ℕ) (r : Tally) : Type 0 where
   pub blacks : r .black ≡ put .black + oneIf mover black
   pub whites : r .white ≡ put .white + oneIf mover white
 
--- ---- The state
+-- ---- The numbers after a stone
 
-unfoldable pub stoned : Game → Board → ℕ → ℕ → Tally → Tally → ℕ → Game
-stoned g board turn ko held put records =
+-- what it is to change cannot grow out of its type, and the ko point is a number of its own
+pub record Moving (c : Clock) (place : Place) : Type 0 where
+  pub held : Few (c .held)
+  pub put : Few (c .put)
+  pub more : c .accepted < maxStones
+  pub within : Within noPoint (placeOf place)
+
+unfoldable pub stoned : Clock → ℕ → ℕ → Tally → Tally → ℕ → Clock
+stoned c turn ko held put records =
     record {
-      board = board;
-      flags = g .flags;
+      flags = c .flags;
       turn = turn;
       passes = 0;
-      outcome = g .outcome;
+      outcome = c .outcome;
       begun = 1;
       ko = ko;
-      handicap = g .handicap;
-      accepted = g .accepted + 1;
+      handicap = c .handicap;
+      accepted = c .accepted + 1;
       held = held;
       put = put;
       records = records;
     }
+
+pub record Moved (c : Clock) (records taken lost : ℕ) (place : Place) (r : Ticked) : Type 0 where
+  pub answer : r .answer ≡ number Accepted
+  pub ko : koOf (r .clock .ko) ≡ placeOf place
+  pub held : HeldAfter (c .held) (turnOf (c .turn)) taken lost (r .clock .held)
+  pub put : PutAfter (c .put) (turnOf (c .turn)) (r .clock .put)
+  -- and the rest
+  pub clock : r .clock ≡ stoned c (other (turnOf (c .turn))) (r .clock .ko) (r .clock .held) (r .clock .put) records
+
+-- ---- The state after a handicap
 
 unfoldable pub handicapGiven : Game → Board → ℕ → Game
 handicapGiven g board count =

@@ -3,12 +3,9 @@
 use mathlib.Core.Path.{_≡_}
 use mathlib.Core.List.{List}
 use mathlib.Core.Logic.{_≢_}
-use mathlib.Core.Bool.{Bool, cond}
 use Prim.Native.Nat.{ℕ}
-use lib.Dec.{eqb}
 use lib.ListN.{length}
-use Rattle.rules.specs.Sizes.{maxStones}
-use Rattle.rules.specs.Answers.{Answer, number, refuse, _then_, GamePaused, SuperKo, MoveLimit, HistoryFull}
+use Rattle.rules.specs.Answers.{number}
 use Rattle.rules.specs.Calls.{Result}
 use Rattle.game.specs.declared.state.Game.{Game}
 use Rattle.game.specs.View.{viewOf, TrueState, RoomIn}
@@ -23,13 +20,3 @@ pub record CalledTrue (call : Result) (g : Game) (bytes : List ℕ) (answer : �
   pub room : RoomIn g′ (length bytes)
   -- refused: the very same state and bytes
   pub refused : answer ≢ 0 → (g′ ≡ g) × (bytes′ ≡ bytes)
-
--- ---- The tests of a stone, as they are asked
-
--- before it is laid: the pause, then what is known of the point
-unfoldable pub firstAnswer : ℕ → ℕ → ℕ
-firstAnswer passes known = cond (eqb passes 2) (number GamePaused) known
-
--- once it is laid: by whether the board that it leaves is recorded, how many were accepted, and whether the history has no room
-unfoldable pub lastAnswer : Bool → ℕ → Bool → Answer
-lastAnswer again accepted full = refuse SuperKo again then refuse MoveLimit (eqb accepted maxStones) then refuse HistoryFull full

@@ -30,10 +30,12 @@ use Rattle.board.specs.Laws.Board.{area-fits}
 use Rattle.laying.specs.declared.lay.Laid.{Laid}
 use Rattle.laying.specs.Laying.{Laying, LaidOut}
 use Rattle.rules.specs.Laws.Answers.{accepts-zero, refuses-other, then-refused, then-accepted, passes, test-refuses, test-passes, zero-accepts, other-refuses}
-use Rattle.history.specs.History.{among, Noted}
+use Rattle.history.specs.History.{among}
 use Rattle.history.specs.Laws.History.{among-recorded}
 use Rattle.game.specs.declared.state.Game.{Game}
-use Rattle.game.specs.declared.state.Tally.{Tally}
+use Rattle.game.specs.declared.clock.Clock.{Clock}
+use Rattle.game.specs.declared.calls.Ticked.{Ticked}
+use Rattle.game.specs.Clock.{clockOf, gameOf}
 use Rattle.game.specs.View.{noPoint, turnOf, koOf, outcomeOf, begunOf, viewOf, TrueState, RoomIn}
 use Rattle.game.specs.Laws.View.{turn-player}
 use Rattle.checking.specs.declared.superko.Told.{Told}
@@ -41,10 +43,12 @@ use Rattle.checking.specs.Told.{known, undecided}
 use Rattle.checking.specs.Asking.{ToldAt}
 use Rattle.checking.specs.Laws.Told.{known-settles, passed-settles}
 use Rattle.checking.specs.Laws.Asking.{told-laying}
-use Rattle.playing.specs.Promise.{firstAnswer, lastAnswer, CalledTrue}
-use Rattle.playing.specs.After.{HeldAfter, PutAfter, stoned}
+use Rattle.playing.specs.declared.stone.Turn.{Turn}
+use Rattle.playing.specs.Promise.{CalledTrue}
+use Rattle.playing.specs.Turn.{firstAnswer, lastAnswer, Allowed, Granted}
+use Rattle.playing.specs.After.{Moving, Moved, stoned}
 use Rattle.playing.specs.Laws.Promise.{true-refused, true-accepted}
-use Rattle.playing.specs.Laws.Count.{turn-same, black-gone, white-gone}
+use Rattle.playing.specs.Laws.Count.{turn-same, true-few, black-gone, white-gone}
 
 -- ---- The order of the tests
 
@@ -87,13 +91,6 @@ then-same a a′ b e =
     (λ z. ap number (then-accepted a b (accepts-zero a z)) ∙ sym (ap number (then-accepted a′ b (accepts-zero a′ (sym e ∙ z)))))
     (λ n. ap number (then-refused a b (refuses-other a n)) ∙ e ∙ sym (ap number (then-refused a′ b (refuses-other a′ (λ z. n (e ∙ z))))))
     (equal-or-not (number a) 0)
-
--- every test lets the stone pass
-pub record Allowed (g : Game) (bytes : List ℕ) (r c : ℕ) : Type 0 where
-  pub unpaused : g .passes ≢ 2
-  pub point : accepts (pointAnswer (viewOf g) bytes (g .flags) r c) ≡ true
-  pub more : g .accepted < maxStones
-  pub free : full bytes (g .records) (coloursOf (g .board)) ≡ false
 
 none-refuses : (a b c : Bool) → number (refuse SuperKo a then refuse MoveLimit b then refuse HistoryFull c) ≡ 0 → (a ≡ false) × (b ≡ false) × (c ≡ false)
 unfolding refuse _then_ accepts number
@@ -207,7 +204,7 @@ place-within : (n : ℕ) (place : Place) → ((k : ℕ) → placeOf place ≡ so
 place-within n Off low = tt
 place-within n (At p) low = low p refl
 
-module _ (g : Game) (bytes : List ℕ) (r c : ℕ) (is : TrueState g) (ok : Allowed g bytes r c) where
+module _ (g : Game) (bytes : List ℕ) (r c : ℕ) (is : TrueState g) (turn : Turn) (bytes′ : List ℕ) (ok : Granted g bytes r c turn bytes′) where
   abbrev own : ℕ
   own = turnOf (g .turn)
 
@@ -216,69 +213,77 @@ module _ (g : Game) (bytes : List ℕ) (r c : ℕ) (is : TrueState g) (ok : Allo
 
   accepted : stoneAnswer (viewOf g) bytes r c ≡ Accepted
   unfolding viewOf
-  accepted = stone-last (viewOf g) bytes r c (ok .unpaused) (ok .point) (ok .more) ∙ passes HistoryFull (ok .free)
+  accepted =
+      let all = ok .allowed in
+      stone-last (viewOf g) bytes r c (all .unpaused) (all .point) (all .more) ∙ passes HistoryFull (all .free)
 
   kept : rules.TrueGame (stoneGame (viewOf g) bytes point)
   unfolding viewOf accepts number
   kept = stone-keeps (viewOf g) bytes r c (is .game) (ap accepts accepted)
 
-  module _ (laid : Laid) {p mover : ℕ} (here′ : p ≡ point) (mine : mover ≡ own) (laidOut : LaidOut (g .board) p mover (g .flags) laid) where
+  module _ (laid : Laid) (laidOut : LaidOut (g .board) (turn .point) (turn .mover) (g .flags) laid) where
     out : LaidOut (g .board) point own (g .flags) laid
     out =
-        subst (λ (q : ℕ). LaidOut (g .board) q own (g .flags) laid) here′
-        (subst (λ (m : ℕ). LaidOut (g .board) p m (g .flags) laid) mine laidOut)
+        subst (λ (q : ℕ). LaidOut (g .board) q own (g .flags) laid) (ok .point)
+        (subst (λ (m : ℕ). LaidOut (g .board) (turn .point) m (g .flags) laid) (ok .mover) laidOut)
 
     -- how many stones of a colour are removed
     abbrev gone : ℕ → ℕ
     gone k = length (removed (g .board .height) (g .board .width) k (coloured (coloursOf (g .board)) own point) (resulting (viewOf g) point))
 
-    pub ko-within : Within noPoint (placeOf (laid .ko))
+    ko-within : Within noPoint (placeOf (laid .ko))
     unfolding viewOf stoneGame resulting
     ko-within =
         place-within noPoint (laid .ko)
         (λ k e. omega (arith, kept .koOn k (sym (out .ko) ∙ e), area-fits (is .board .table .size)))
 
-    module _
-        (turn : ℕ) (next : turn ≡ other mover) (ko : ℕ) (its : koOf ko ≡ placeOf (laid .ko))
-        (held : Tally) (holds : HeldAfter (g .held) mover (laid .taken) (laid .lost) held) (put : Tally) (puts : PutAfter (g .put) mover put)
-        (records : ℕ) (bytes′ : List ℕ) (noted : Noted bytes (g .records) (coloursOf (g .board)) records bytes′) where
-      abbrev after : Game
-      after = stoned g (laid .board) turn ko held put records
+    -- the numbers can be changed
+    pub stone-moving : Moving (clockOf g) (laid .ko)
+    unfolding clockOf
+    stone-moving = let few = true-few g is in record { held = few .0; put = few .1; more = ok .allowed .more; within = ko-within }
 
-      shown : viewOf after ≡ stoneGame (viewOf g) bytes point
-      unfolding viewOf stoned stoneGame resulting begunOf
+    module _ (now : Ticked) (moved : Moved (clockOf g) (turn .records) (laid .taken) (laid .lost) (laid .ko) now) where
+      abbrev after : Clock
+      after = stoned (clockOf g) (other own) (now .clock .ko) (now .clock .held) (now .clock .put) (turn .records)
+
+      shown : viewOf (gameOf (laid .board) after) ≡ stoneGame (viewOf g) bytes point
+      unfolding viewOf clockOf gameOf stoned stoneGame resulting begunOf
       shown =
           let player = turn-player (g .turn) in
-          let turns = next ∙ ap other mine in
-          let holds′ = subst (λ (m : ℕ). HeldAfter (g .held) m (laid .taken) (laid .lost) held) mine holds in
-          let puts′ = subst (λ (m : ℕ). PutAfter (g .put) m put) mine puts in
           λ i.
           record {
             height = out .tall i;
             width = out .wide i;
             flags = g .flags;
             colours = out .colours i;
-            turn = (ap turnOf turns ∙ turn-same (other own) (other-player own player)) i;
+            turn = turn-same (other own) (other-player own player) i;
             passes = 0;
-            whiteHeld = (holds′ .whites ∙ ap (λ (n : ℕ). g .held .white + n) (white-gone own (laid .taken) (laid .lost) gone (out .taken) (out .lost) player)) i;
-            blackHeld = (holds′ .blacks ∙ ap (λ (n : ℕ). g .held .black + n) (black-gone own (laid .taken) (laid .lost) gone (out .taken) (out .lost) player)) i;
-            koPoint = (its ∙ out .ko) i;
+            whiteHeld = (moved .held .whites ∙ ap (λ (n : ℕ). g .held .white + n) (white-gone own (laid .taken) (laid .lost) gone (out .taken) (out .lost) player)) i;
+            blackHeld = (moved .held .blacks ∙ ap (λ (n : ℕ). g .held .black + n) (black-gone own (laid .taken) (laid .lost) gone (out .taken) (out .lost) player)) i;
+            koPoint = (moved .ko ∙ out .ko) i;
             outcome = outcomeOf (g .outcome);
             handicap = g .handicap;
             accepted = g .accepted + 1;
-            blackPut = puts′ .blacks i;
-            whitePut = puts′ .whites i;
-            records = noted .counted i;
+            blackPut = moved .put .blacks i;
+            whitePut = moved .put .whites i;
+            records = ok .noted .counted i;
             begun = true;
           }
 
-      pub play-accepted : RoomIn g (length bytes) → CalledTrue (stone (viewOf g) bytes r c) g bytes 0 after bytes′
-      unfolding viewOf stone stoned accepts number RoomIn capacity
-      play-accepted room =
-          let long = bytesAfter-length bytes (g .records) (coloursOf (g .board)) (ok .free) in
-          let fits = recordsAfter-fits bytes (g .records) (coloursOf (g .board)) (ok .free) room in
+      stoned-called : RoomIn g (length bytes) → CalledTrue (stone (viewOf g) bytes r c) g bytes 0 (gameOf (laid .board) after) bytes′
+      unfolding viewOf stone clockOf gameOf stoned accepts number RoomIn capacity
+      stoned-called room =
+          let free = ok .allowed .free in
+          let long = bytesAfter-length bytes (g .records) (coloursOf (g .board)) free in
+          let fits = recordsAfter-fits bytes (g .records) (coloursOf (g .board)) free room in
           true-accepted g bytes is room (stoneAnswer (viewOf g) bytes r c) (stoneGame (viewOf g) bytes point)
-          (bytesAfter bytes (g .records) (coloursOf (g .board))) (ap accepts accepted) shown (noted .written)
+          (bytesAfter bytes (g .records) (coloursOf (g .board))) (ap accepts accepted) shown (ok .noted .written)
           (record { board = out .board; game = subst rules.TrueGame (sym shown) kept })
           long
-          (rw (noted .counted, ← long) fits)
+          (rw (ok .noted .counted, ← long) fits)
+
+      -- the board that is laid and the numbers are the game after the stone
+      pub stone-called : RoomIn g (length bytes) → CalledTrue (stone (viewOf g) bytes r c) g bytes 0 (gameOf (laid .board) (now .clock)) bytes′
+      unfolding clockOf
+      stone-called room =
+          subst (λ (k : Clock). CalledTrue (stone (viewOf g) bytes r c) g bytes 0 (gameOf (laid .board) k) bytes′) (sym (moved .clock)) (stoned-called room)

@@ -1,7 +1,7 @@
 -- `first_answer`: paused, or what is known.
 use borrow.Author.Tests.{eq-eqb, ne-eqb}
 use Rattle.rules.specs.Answers.{number}
-use Rattle.playing.specs.Promise.{firstAnswer}
+use Rattle.playing.specs.Turn.{firstAnswer}
 use Rattle.playing.proofs.stone.first_answer.Statement.{statement}
 use Rattle.playing.proofs.stone.first_answer.Tie as tie
 

@@ -1,7 +1,7 @@
 -- `last_answer`: the ways out are the cases of the definition.
 use borrow.Author.Tests.{eq-eqb, ne-eqb}
 use Rattle.rules.specs.Answers.{number, accepts, refuse, _then_}
-use Rattle.playing.specs.Promise.{lastAnswer}
+use Rattle.playing.specs.Turn.{lastAnswer}
 use Rattle.playing.proofs.stone.last_answer.Statement.{statement}
 use Rattle.playing.proofs.stone.last_answer.Tie as tie
 
