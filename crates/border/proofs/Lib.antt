@@ -1,3 +1,4 @@
 -- What the walks by hand share.
+mod Answer
 mod Stores
 mod Alone

@@ -30,7 +30,8 @@ use Rattle.game.proofs.state.Game as G
 use Rattle.game.proofs.state.Game.Laws as G′
 use Rattle.game.proofs.calls.Answered as N
 use Rattle.game.proofs.calls.Answered.Laws as N′
-use Rattle.replaying.proofs.Values.{GameIs, apart, game-typed, answered-typed}
+use Rattle.replaying.proofs.Values.{GameIs, game-typed}
+use Rattle.border.proofs.Answer.{apart, answered-typed}
 
 abbrev pub τ₁ : Ty
 τ₁ = tyRef (named 0) mut (pointee (G.the-row .written))

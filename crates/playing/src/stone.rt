@@ -115,7 +115,11 @@ pub fn tested(board: Board, clock: Clock, history: &mut [u8], row: u8, column: u
         again = is_recorded(history, clock.records, &record);
     }
     let bytes = record_by(board.hash, &sight.colours);
-    let last = last_answer(again, clock.accepted, no_room(history, clock.records, &bytes));
+    let last = last_answer(
+        again,
+        clock.accepted,
+        no_room(history, clock.records, &bytes),
+    );
     if last != ACCEPTED {
         return Turn {
             answer: last,

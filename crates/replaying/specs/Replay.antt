@@ -7,7 +7,10 @@ use lib.ListN.{length}
 use Rattle.rules.specs.Answers.{Damaged, number}
 use Rattle.rules.specs.Calls as rules
 use Rattle.rules.specs.Calls.{Entry}
+use Rattle.board.specs.declared.goban.Board.{Board}
 use Rattle.game.specs.declared.state.Game.{Game}
+use Rattle.game.specs.declared.clock.Clock.{Clock}
+use Rattle.game.specs.Clock.{gameOf}
 use Rattle.game.specs.View.{viewOf, TrueState, RoomIn}
 use Rattle.playing.specs.Promise.{CalledTrue}
 use Rattle.replaying.specs.declared.replay.Move.{Move}
@@ -23,9 +26,12 @@ entryOf m = entry (m .kind) (m .row) (m .column)
 unfoldable pub entriesOf : List Move → List Entry
 entriesOf moves = map entryOf moves
 
--- an entry that needs no history: with any that has room, and at any row and column, what the rules say of it, and the bytes as they are
-pub record EntersAlone (g : Game) (kind answer : ℕ) (g′ : Game) : Type 0 where
-  pub entered : (bytes : List ℕ) (row column : ℕ) → RoomIn g (length bytes) → CalledTrue (rules.entryCall (viewOf g) bytes (entry kind row column)) g bytes answer g′ bytes
+-- an entry on the numbers alone: with any board that these make a true state with, any history that has room, and at any row and column, what
+-- the rules say of it, and board and bytes as they are
+pub record EntersAlone (c : Clock) (kind answer : ℕ) (c′ : Clock) : Type 0 where
+  pub entered :
+      (b : Board) (bytes : List ℕ) (row column : ℕ) → TrueState (gameOf b c) → RoomIn (gameOf b c) (length bytes)
+      → CalledTrue (rules.entryCall (viewOf (gameOf b c)) bytes (entry kind row column)) (gameOf b c) bytes answer (gameOf b c′) bytes
 
 -- `is` is what makes the state and the history true; `said` what the rules' replay gives
 pub record Replays (is : Type 0) (said : rules.Replayed) (g : Game) (bytes : List ℕ) (r : Replayed) (bytes′ : List ℕ) : Type 0 where

@@ -1,35 +1,34 @@
-// One entry of a replay that puts no stone, in a state that is true already: its kind names the call.
-use game::calls::Answered;
-use game::calls::pass_true;
-use game::calls::resign_true;
-use game::calls::resume_true;
-use game::state::Game;
+// One entry of a replay that puts no stone, on a game's numbers alone: its kind names the call.
+use game::calls::Ticked;
+use game::calls::passed;
+use game::calls::resigned;
+use game::calls::resumed;
+use game::clock::Clock;
 use points::answers::BAD_KIND;
 use points::stones::BLACK;
 use points::stones::WHITE;
 ghost use mathlib.Core.Logic.{_≢_};
-ghost use Rattle.game.specs.View.{TrueState};
 ghost use Rattle.replaying.specs.Replay.{EntersAlone};
 
-// Kinds: 1 pass, 2 and 3 a resignation naming Black or White, 4 resume. Any other is refused before all else; 0 is a stone, which needs the history.
-pub fn enter(game: Game, kind: u8) -> Answered
-    requires { ⌜ TrueState game × (kind ≢ 0) ⌝ }
-    ensures { λ r. ⌜ EntersAlone game kind (r .answer) (r .game) ⌝ }
+// Kinds: 1 pass, 2 and 3 a resignation naming Black or White, 4 resume. Any other is refused before all else; 0 is a stone, which needs board and history.
+pub fn enter(clock: Clock, kind: u8) -> Ticked
+    requires { ⌜ kind ≢ 0 ⌝ }
+    ensures { λ r. ⌜ EntersAlone clock kind (r .answer) (r .clock) ⌝ }
 {
     if kind == 1 {
-        return pass_true(game);
+        return passed(clock);
     }
     if kind == 2 {
-        return resign_true(game, BLACK);
+        return resigned(clock, BLACK);
     }
     if kind == 3 {
-        return resign_true(game, WHITE);
+        return resigned(clock, WHITE);
     }
     if kind == 4 {
-        return resume_true(game);
+        return resumed(clock);
     }
-    Answered {
+    Ticked {
         answer: BAD_KIND,
-        game: game,
+        clock: clock,
     }
 }

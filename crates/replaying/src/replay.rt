@@ -1,11 +1,19 @@
 // Replay: a lent row of moves in order, up to the first refusal.
 use crate::entry::enter;
-use game::calls::Answered;
+use board::goban::Board;
+use game::calls::Ticked;
+use game::clock::clock_of;
+use game::clock::game_of;
 use game::judge::judge_with;
 use game::state::Game;
-use playing::stone::play;
+use laying::lay::Laid;
+use laying::lay::lay;
+use playing::stone::moved;
+use playing::stone::tested;
 use points::answers::ACCEPTED;
 use points::answers::DAMAGED;
+use points::coord::Place;
+ghost use mathlib.Core.Path.{_≡_};
 ghost use lib.ListN.{length};
 ghost use Rattle.rules.specs.Calls as rules;
 ghost use Rattle.game.specs.View.{viewOf, TrueState, RoomIn};
@@ -29,14 +37,28 @@ pub struct Replayed {
     pub game: Game,
 }
 
-// The state is judged once: each accepted entry leaves a true one. The loop copies no game: each call reads it where the last one put it, a stone's with no call between, and
-// one exit gives it back.
+// The board before any stone is laid on it.
+fn unlaid(board: Board) -> Laid
+    ensures { λ r. ⌜ r .board ≡ board ⌝ }
+{
+    let ko = Place::Off;
+    Laid {
+        board: board,
+        taken: 0,
+        lost: 0,
+        ko: ko,
+    }
+}
+
+// The state is judged once: each accepted entry leaves a true one. The loop holds the board and the numbers apart and gives neither to a function that gives the
+// game back: `lay` reads the board where it put the last one, and one exit makes a game of both.
 pub fn replay(game: Game, history: &mut [u8], moves: &[Move]) -> Replayed
     ensures { λ r. ⌜ Replays (TrueState game × RoomIn game (length (now (history .entry)))) (rules.replay (viewOf game) (now (history .entry)) (entriesOf (now (moves .entry)))) game (now (history .entry)) r (now (history .exit)) ⌝ }
 {
-    let mut now = Answered {
+    let mut laid = unlaid(game.board);
+    let mut now = Ticked {
         answer: DAMAGED,
-        game: game,
+        clock: clock_of(game),
     };
     let mut at = 0;
     if judge_with(game, history.len()) {
@@ -44,9 +66,14 @@ pub fn replay(game: Game, history: &mut [u8], moves: &[Move]) -> Replayed
         while at < moves.len() {
             let entry = moves[at];
             if entry.kind == 0 {
-                now = play(now.game, history, entry.row, entry.column);
+                let turn = tested(laid.board, now.clock, history, entry.row, entry.column);
+                now.answer = turn.answer;
+                if turn.answer == ACCEPTED {
+                    laid = lay(laid.board, turn.point, turn.mover, now.clock.flags);
+                    now = moved(now.clock, turn.records, laid.taken, laid.lost, laid.ko);
+                }
             } else {
-                now = enter(now.game, entry.kind);
+                now = enter(now.clock, entry.kind);
             }
             if now.answer != ACCEPTED {
                 break;
@@ -57,6 +84,6 @@ pub fn replay(game: Game, history: &mut [u8], moves: &[Move]) -> Replayed
     Replayed {
         entries: at,
         answer: now.answer,
-        game: now.game,
+        game: game_of(laid.board, now.clock),
     }
 }

@@ -1,4 +1,4 @@
--- Laws of a state's view: a fresh state shows a fresh game and is true, every byte names a player, and when a history has room.
+-- Laws of a state's view: a fresh state shows a fresh game and is true, every byte names a player, when a history has room, and a game is its board and its numbers.
 use mathlib.Core.Path.{_≡_, refl, ap, _∙_}
 use mathlib.Core.Bool.{true, false}
 use mathlib.Core.List.{List}
@@ -18,7 +18,10 @@ use Rattle.rules.specs.Laws.Lists.{decided}
 use Rattle.rules.specs.Laws.Stones.{stones-none}
 use Rattle.board.specs.Board.{coloursOf, newBoard}
 use Rattle.board.specs.Laws.Chains.{true-colours}
+use Rattle.board.specs.declared.goban.Board.{Board}
 use Rattle.game.specs.declared.state.Game.{Game}
+use Rattle.game.specs.declared.clock.Clock.{Clock}
+use Rattle.game.specs.Clock.{clockOf, gameOf}
 use Rattle.game.specs.View.{noPoint, turnOf, outcomeOf, koOf, begunOf, viewOf, TrueState, RoomIn, freshState}
 use Rattle.board.specs.Laws.NewBoard.{new-colours, new-true}
 
@@ -57,6 +60,12 @@ outcome-turn x = ⊎-elim (λ (y : eqb x white ≡ true). rw y) (λ (n : eqb x w
 pub room-history : (g : Game) (bytes : List ℕ) → RoomIn g (length bytes) ≡ rules.TrueHistory (viewOf g) bytes
 unfolding RoomIn viewOf rules.TrueHistory capacity
 room-history g bytes = refl
+
+-- ---- Its board and its numbers
+
+pub game-whole : (g : Game) (b : Board) (c : Clock) → b ≡ g .board → c ≡ clockOf g → gameOf b c ≡ g
+unfolding clockOf gameOf
+game-whole g b c board clock = λ i. gameOf (board i) (clock i)
 
 -- ---- A fresh state
 

@@ -29,14 +29,14 @@ use Rattle.board.specs.Board.{coloursOf}
 use Rattle.board.specs.Laws.Board.{area-fits}
 use Rattle.laying.specs.declared.lay.Laid.{Laid}
 use Rattle.laying.specs.Laying.{Laying, LaidOut}
-use Rattle.rules.specs.Laws.Answers.{accepts-zero, refuses-other, then-refused, then-accepted, passes, test-refuses, test-passes, zero-accepts, other-refuses}
+use Rattle.rules.specs.Laws.Answers.{accepts-zero, refuses-other, then-refused, then-accepted, passes, test-refuses, test-passes, other-refuses}
 use Rattle.history.specs.History.{among}
 use Rattle.history.specs.Laws.History.{among-recorded}
 use Rattle.game.specs.declared.state.Game.{Game}
 use Rattle.game.specs.declared.clock.Clock.{Clock}
 use Rattle.game.specs.declared.calls.Ticked.{Ticked}
 use Rattle.game.specs.Clock.{clockOf, gameOf}
-use Rattle.game.specs.View.{noPoint, turnOf, koOf, outcomeOf, begunOf, viewOf, TrueState, RoomIn}
+use Rattle.game.specs.View.{noPoint, turnOf, outcomeOf, begunOf, viewOf, TrueState, RoomIn}
 use Rattle.game.specs.Laws.View.{turn-player}
 use Rattle.checking.specs.declared.superko.Told.{Told}
 use Rattle.checking.specs.Told.{known, undecided}

@@ -1,4 +1,4 @@
--- Laws of one entry: its kind names its call, and a call that needs no history leaves the bytes as they are.
+-- Laws of one entry: its kind names its call, a call that needs no history leaves the bytes as they are, and a stone goes through its tests, the board and the numbers.
 use mathlib.Core.Path.{_≡_, refl, sym, ap, _∙_, subst}
 use mathlib.Core.Bool.{Bool, true, false, cond}
 use mathlib.Core.List.{List, []}
@@ -13,10 +13,20 @@ use Rattle.rules.specs.Answers.{Answer, Accepted, BadKind, number, accepts}
 use Rattle.rules.specs.Game as rules
 use Rattle.rules.specs.Calls.{Result, result, stone, pauseAnswer, pass, passGame, resign, resignGame, resume, resumeGame, entryCall}
 use Rattle.rules.specs.Laws.Lists.{decided}
+use Rattle.board.specs.declared.goban.Board.{Board}
+use Rattle.laying.specs.declared.lay.Laid.{Laid}
+use Rattle.laying.specs.Laying.{Laying, LaidOut}
 use Rattle.game.specs.declared.state.Game.{Game}
+use Rattle.game.specs.declared.clock.Clock.{Clock}
+use Rattle.game.specs.declared.calls.Ticked.{Ticked}
+use Rattle.game.specs.Clock.{clockOf, gameOf}
 use Rattle.game.specs.View.{viewOf, TrueState, RoomIn}
-use Rattle.game.specs.Promise.{CalledAlone}
+use Rattle.game.specs.Promise.{CalledAlone, Ticks}
+use Rattle.playing.specs.declared.stone.Turn.{Turn}
 use Rattle.playing.specs.Promise.{CalledTrue}
+use Rattle.playing.specs.Turn.{Tested}
+use Rattle.playing.specs.After.{Moving, Moved}
+use Rattle.playing.specs.Laws.Stone.{stone-moving, stone-called}
 use Rattle.replaying.specs.Replay.{entry, EntersAlone}
 
 -- ---- The kind names the call
@@ -79,8 +89,7 @@ module _ (g : Game) (kind : ℕ) where
         {answer : ℕ} {g′ : Game} {bytes′ : List ℕ} → kind ≡ 0 → CalledTrue (stone (viewOf g) bytes row column) g bytes answer g′ bytes′ → Enters answer g′ bytes′
     enters-stone e = by-kind (entry-stone (viewOf g) bytes kind row column e)
 
-  module _ (is : TrueState g) where
-    module _ (a : Answer) (new : rules.Game) (same : new .records ≡ g .records) where
+    module _ (is : TrueState g) (room : RoomIn g (length bytes)) (a : Answer) (new : rules.Game) (same : new .records ≡ g .records) where
       -- accepted or not, as many records
       records-same : (g′ : Game) → viewOf g′ ≡ result a (viewOf g) [] new [] .game → g′ .records ≡ g .records
       unfolding result viewOf
@@ -90,44 +99,90 @@ module _ (g : Game) (kind : ℕ) where
 
       -- a call that needs no history, with any that has room
       enters-alone :
-          ((bytes : List ℕ) (row column : ℕ) → called (viewOf g) bytes kind row column ≡ result a (viewOf g) bytes new bytes) →
-          {answer : ℕ} {g′ : Game} → CalledAlone (result a (viewOf g) [] new []) g answer g′ → EntersAlone g kind answer g′
+          called (viewOf g) bytes kind row column ≡ result a (viewOf g) bytes new bytes →
+          {answer : ℕ} {g′ : Game} → CalledAlone (result a (viewOf g) [] new []) g answer g′ → Enters answer g′ bytes
       unfolding result RoomIn
       enters-alone e {g′} c =
-          record {
-            entered = λ bytes row column room. by-kind bytes row column (e bytes row column) (record {
-              answered = c .answered is;
-              shown = c .shown is;
-              lent = both-same (accepts a) bytes;
-              kept = c .kept is;
-              long = refl;
-              room = subst (λ (n : ℕ). n ≤ length bytes / recordBytes) (sym (records-same g′ (c .shown is))) room;
-              refused = λ n. (c .refused n, refl);
-            });
-          }
+          by-kind e (record {
+            answered = c .answered is;
+            shown = c .shown is;
+            lent = both-same (accepts a) bytes;
+            kept = c .kept is;
+            long = refl;
+            room = subst (λ (n : ℕ). n ≤ length bytes / recordBytes) (sym (records-same g′ (c .shown is))) room;
+            refused = λ n. (c .refused n, refl);
+          })
 
-    pub enters-pass : {answer : ℕ} {g′ : Game} → kind ≡ 1 → CalledAlone (pass (viewOf g) []) g answer g′ → EntersAlone g kind answer g′
-    unfolding pass passGame viewOf
-    enters-pass e = enters-alone (pauseAnswer (viewOf g)) (passGame (viewOf g)) refl (λ bytes row column. entry-pass (viewOf g) bytes kind row column e)
+-- ---- The same on the numbers alone
 
-    pub enters-black : {answer : ℕ} {g′ : Game} → kind ≡ 2 → CalledAlone (resign (viewOf g) [] black) g answer g′ → EntersAlone g kind answer g′
-    unfolding resign resignGame viewOf
-    enters-black e =
-        enters-alone (pauseAnswer (viewOf g)) (resignGame (viewOf g) black) refl (λ bytes row column. entry-black (viewOf g) bytes kind row column e)
+module _ (c : Clock) (kind : ℕ) where
+  pub enters-pass : {answer : ℕ} {c′ : Clock} → kind ≡ 1 → Ticks (λ g. pass (viewOf g) []) c answer c′ → EntersAlone c kind answer c′
+  unfolding pass passGame viewOf
+  enters-pass e ticks =
+      record {
+        entered = λ b bytes row column is room.
+            let g = gameOf b c in
+            enters-alone g kind bytes row column is room (pauseAnswer (viewOf g)) (passGame (viewOf g)) refl (entry-pass (viewOf g) bytes kind row column e) (ticks .ticked b is);
+      }
 
-    pub enters-white : {answer : ℕ} {g′ : Game} → kind ≡ 3 → CalledAlone (resign (viewOf g) [] white) g answer g′ → EntersAlone g kind answer g′
-    unfolding resign resignGame viewOf
-    enters-white e =
-        enters-alone (pauseAnswer (viewOf g)) (resignGame (viewOf g) white) refl (λ bytes row column. entry-white (viewOf g) bytes kind row column e)
+  pub enters-black : {answer : ℕ} {c′ : Clock} → kind ≡ 2 → Ticks (λ g. resign (viewOf g) [] black) c answer c′ → EntersAlone c kind answer c′
+  unfolding resign resignGame viewOf
+  enters-black e ticks =
+      record {
+        entered = λ b bytes row column is room.
+            let g = gameOf b c in
+            enters-alone g kind bytes row column is room (pauseAnswer (viewOf g)) (resignGame (viewOf g) black) refl (entry-black (viewOf g) bytes kind row column e) (ticks .ticked b is);
+      }
 
-    pub enters-resume : {answer : ℕ} {g′ : Game} → kind ≡ 4 → CalledAlone (resume (viewOf g) []) g answer g′ → EntersAlone g kind answer g′
-    unfolding resume resumeGame viewOf
-    enters-resume e = enters-alone Accepted (resumeGame (viewOf g)) refl (λ bytes row column. entry-resume (viewOf g) bytes kind row column e)
+  pub enters-white : {answer : ℕ} {c′ : Clock} → kind ≡ 3 → Ticks (λ g. resign (viewOf g) [] white) c answer c′ → EntersAlone c kind answer c′
+  unfolding resign resignGame viewOf
+  enters-white e ticks =
+      record {
+        entered = λ b bytes row column is room.
+            let g = gameOf b c in
+            enters-alone g kind bytes row column is room (pauseAnswer (viewOf g)) (resignGame (viewOf g) white) refl (entry-white (viewOf g) bytes kind row column e) (ticks .ticked b is);
+      }
 
-    pub enters-unknown : kind ≢ 0 → kind ≢ 1 → kind ≢ 2 → kind ≢ 3 → kind ≢ 4 → EntersAlone g kind (number BadKind) g
-    unfolding result accepts number
-    enters-unknown n₀ n₁ n₂ n₃ n₄ =
-        record {
-          entered = λ bytes row column room. by-kind bytes row column (entry-unknown (viewOf g) bytes kind row column n₀ n₁ n₂ n₃ n₄)
-              (record { answered = refl; shown = refl; lent = refl; kept = is; long = refl; room = room; refused = λ n. (refl, refl) });
-        }
+  pub enters-resume : {answer : ℕ} {c′ : Clock} → kind ≡ 4 → Ticks (λ g. resume (viewOf g) []) c answer c′ → EntersAlone c kind answer c′
+  unfolding resume resumeGame viewOf
+  enters-resume e ticks =
+      record {
+        entered = λ b bytes row column is room.
+            let g = gameOf b c in
+            enters-alone g kind bytes row column is room Accepted (resumeGame (viewOf g)) refl (entry-resume (viewOf g) bytes kind row column e) (ticks .ticked b is);
+      }
+
+  pub enters-unknown : kind ≢ 0 → kind ≢ 1 → kind ≢ 2 → kind ≢ 3 → kind ≢ 4 → EntersAlone c kind (number BadKind) c
+  unfolding result accepts number
+  enters-unknown n₀ n₁ n₂ n₃ n₄ =
+      record {
+        entered = λ b bytes row column is room.
+            let g = gameOf b c in
+            by-kind g kind bytes row column (entry-unknown (viewOf g) bytes kind row column n₀ n₁ n₂ n₃ n₄)
+            (record { answered = refl; shown = refl; lent = refl; kept = is; long = refl; room = room; refused = λ n. (refl, refl) });
+      }
+
+-- ---- A stone on a board and numbers that are held apart
+
+module _ (b : Board) (k : Clock) (kind : ℕ) (its : kind ≡ 0) (bytes : List ℕ) (row column : ℕ) (t : Turn) (bytes′ : List ℕ) (tested : Tested (gameOf b k) bytes row column t bytes′) where
+  pub stone-refused : t .answer ≢ 0 → Enters (gameOf b k) kind bytes row column (t .answer) (gameOf b k) bytes′
+  stone-refused n = enters-stone (gameOf b k) kind bytes row column its (tested .refused n)
+
+  module _ (zero′ : t .answer ≡ 0) where
+    pub stone-laying : Laying b (t .point) (t .mover) (k .flags)
+    unfolding gameOf
+    stone-laying = tested .granted zero′ .laying
+
+    module _ (is : TrueState (gameOf b k)) (laid : Laid) (out : LaidOut b (t .point) (t .mover) (k .flags) laid) where
+      pub laid-moving : Moving k (laid .ko)
+      unfolding clockOf gameOf
+      laid-moving = stone-moving (gameOf b k) bytes row column is t bytes′ (tested .granted zero′) laid out
+
+      pub stone-entered :
+          RoomIn (gameOf b k) (length bytes) → (now : Ticked) → Moved k (t .records) (laid .taken) (laid .lost) (laid .ko) now
+          → Enters (gameOf b k) kind bytes row column (now .answer) (gameOf (laid .board) (now .clock)) bytes′
+      unfolding clockOf gameOf number
+      stone-entered room now moved =
+          enters-stone (gameOf b k) kind bytes row column its
+          (subst (λ (a : ℕ). CalledTrue (stone (viewOf (gameOf b k)) bytes row column) (gameOf b k) bytes a (gameOf (laid .board) (now .clock)) bytes′) (sym (moved .answer))
+          (stone-called (gameOf b k) bytes row column is t bytes′ (tested .granted zero′) laid out now moved room))

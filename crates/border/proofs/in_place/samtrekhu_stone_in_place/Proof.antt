@@ -54,7 +54,8 @@ use Rattle.game.proofs.calls.Answered.Laws as N′
 use Rattle.playing.proofs.stone.stone as inner
 use Rattle.playing.proofs.stone.stone.Symbol as inner-def
 use Rattle.playing.proofs.stone.stone.Met as inner-thm
-use Rattle.replaying.proofs.Values.{GameIs, apart, game-typed, answered-typed}
+use Rattle.replaying.proofs.Values.{GameIs, game-typed}
+use Rattle.border.proofs.Answer.{apart, answered-typed}
 use Rattle.border.proofs.Stores.{τ₁, taken, Held}
 use Rattle.border.proofs.in_place.samtrekhu_stone_in_place.Key.{name}
 use Rattle.border.proofs.in_place.samtrekhu_stone_in_place as outer

@@ -1,5 +1,5 @@
 -- The state is damaged, the tests refuse, or the stone is laid and the numbers are changed.
-use mathlib.Core.Path.{_≡_, sym, ap, subst}
+use mathlib.Core.Path.{_≡_, refl, sym, subst}
 use lib.ListN.{length}
 use borrow.Author.Tests.{not-true, not-false}
 use borrow.Author.Needs.{needs}
@@ -8,8 +8,9 @@ use Rattle.rules.specs.Calls.{stone}
 use Rattle.rules.specs.Laws.Lists.{not-both}
 use Rattle.game.specs.declared.state.Game.{Game}
 use Rattle.game.specs.declared.clock.Clock.{Clock}
-use Rattle.game.specs.Clock.{clockOf, gameOf}
+use Rattle.game.specs.Clock.{gameOf}
 use Rattle.game.specs.View.{viewOf, TrueState, RoomIn}
+use Rattle.game.specs.Laws.View.{game-whole}
 use Rattle.playing.specs.Promise.{CalledTrue}
 use Rattle.playing.specs.Turn.{Granted}
 use Rattle.playing.specs.After.{Moving, Moved}
@@ -36,8 +37,7 @@ true-state c = judged c .before .judge-with .ensures .0 (not-false _ (judged c .
 
 -- board and numbers are the game
 whole : (c : tie.After-clock-of) → let g = begin c .args .game in gameOf (g .board) (c .clock-of .result) ≡ g
-unfolding clockOf gameOf
-whole c = ap (gameOf (begin c .args .game .board)) (c .clock-of .ensures)
+whole c = let g = begin c .args .game in game-whole g (g .board) (c .clock-of .result) refl (c .clock-of .ensures)
 
 judge-with-requires : tie.Need-judge-with-requires
 judge-with-requires c κs = search needs
