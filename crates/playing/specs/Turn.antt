@@ -18,11 +18,11 @@ use Rattle.game.specs.View.{turnOf, viewOf}
 use Rattle.playing.specs.declared.stone.Turn.{Turn}
 use Rattle.playing.specs.Promise.{CalledTrue}
 
--- before it is laid: the pause, then what is known of the point
+-- without the records: the pause, then what is known of the point
 unfoldable pub firstAnswer : ℕ → ℕ → ℕ
 firstAnswer passes known = cond (eqb passes 2) (number GamePaused) known
 
--- once it is laid: by whether the board that it leaves is recorded, how many were accepted, and whether the history has no room
+-- by the records and the count: whether the board that it leaves is recorded, how many were accepted, and whether the history has no room
 unfoldable pub lastAnswer : Bool → ℕ → Bool → Answer
 lastAnswer again accepted full = refuse SuperKo again then refuse MoveLimit (eqb accepted maxStones) then refuse HistoryFull full
 

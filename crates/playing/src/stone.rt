@@ -50,7 +50,7 @@ pub struct Turn {
     pub records: usize,
 }
 
-// What is known before the stone is laid: the pause, then what is told of the point.
+// What is known without the records: the pause, then what is told of the point.
 fn first_answer(passes: u8, known: u8) -> u8
     ensures { λ r. ⌜ r ≡ firstAnswer passes known ⌝ }
 {
@@ -60,7 +60,7 @@ fn first_answer(passes: u8, known: u8) -> u8
     known
 }
 
-// What is known of it once it is laid: the board it leaves is recorded, it is one stone too many, or there is no room for a record.
+// What the records and the count tell of it: the board it leaves is recorded, it is one stone too many, or there is no room for a record.
 fn last_answer(again: bool, accepted: u16, full: bool) -> u8
     ensures { λ r. ⌜ r ≡ number (lastAnswer again accepted full) ⌝ }
 {

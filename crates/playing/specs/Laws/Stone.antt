@@ -99,7 +99,7 @@ none-refuses false true c z = let e : _≡_ {A = ℕ} 10 0 = z in absurd (omega 
 none-refuses false false true z = let e : _≡_ {A = ℕ} 11 0 = z in absurd (omega (arith, e))
 none-refuses false false false z = (refl, refl, refl)
 
--- ---- What is known before the stone is laid
+-- ---- What is known without the records
 
 module _ (g : Game) (bytes : List ℕ) (r c : ℕ) (is : TrueState g) (room : RoomIn g (length bytes)) where
   abbrev side : ℕ
@@ -159,7 +159,7 @@ module _ (g : Game) (bytes : List ℕ) (r c : ℕ) (is : TrueState g) (room : Ro
           subst (λ (q : ℕ). Laying (g .board) q mover (g .flags)) (sym here′)
           (subst (λ (m : ℕ). Laying (g .board) spot m (g .flags)) (sym mine) (told-laying g bytes r c is room t told first-known))
 
-      -- ---- What is known once it is laid
+      -- ---- What is known by the records and the count
 
       module _ (again : Bool) (looked : undecided t ≡ true → again ≡ again?) (skipped : undecided t ≡ false → again ≡ false)
           (no-room : Bool) (full′ : full bytes (g .records) (coloursOf (g .board)) ≡ no-room)

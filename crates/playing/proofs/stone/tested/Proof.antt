@@ -136,7 +136,7 @@ lay-requires : tie.Need-lay-requires
 lay-requires c κs = layable (c .before .before)
 
 look-at-requires-2 : tie.Need-look-at-requires-2
-look-at-requires-2 c κs = c .lay .ensures .board
+look-at-requires-2 c κs = search needs
 
 record-by-requires : tie.Need-record-by-requires
 record-by-requires c κs =
