@@ -68,9 +68,9 @@ module _ (v : rules.Game) (bytes : List ℕ) (kind row column : ℕ) where
   entry-unknown n₀ n₁ n₂ n₃ n₄ = rw (ne-eqb kind 0 n₀, ne-eqb kind 1 n₁, ne-eqb kind 2 n₂, ne-eqb kind 3 n₃, ne-eqb kind 4 n₄)
 
 -- accepted or not, the same
-both-same : {A : Type 0} (t : Bool) (x : A) → x ≡ cond t x x
-both-same true x = refl
-both-same false x = refl
+pub cond-same : {A : Type 0} (t : Bool) (x : A) → cond t x x ≡ x
+cond-same true x = refl
+cond-same false x = refl
 
 -- ---- The promise of the call that the kind names
 
@@ -106,7 +106,7 @@ module _ (g : Game) (kind : ℕ) where
           by-kind e (record {
             answered = c .answered is;
             shown = c .shown is;
-            lent = both-same (accepts a) bytes;
+            lent = sym (cond-same (accepts a) bytes);
             kept = c .kept is;
             long = refl;
             room = subst (λ (n : ℕ). n ≤ length bytes / recordBytes) (sym (records-same g′ (c .shown is))) room;

@@ -21,8 +21,9 @@ use Rattle.rules.specs.Calls.{newAnswer, Entry}
 use Rattle.board.specs.Board.{coloursOf}
 use Rattle.game.specs.declared.state.Game.{Game}
 use Rattle.game.specs.View.{viewOf, RoomIn}
+use Rattle.replaying.specs.Laws.Entry.{cond-same}
 use Rattle.runs.specs.Runs.{Call, Reply, Event, Desk, Sound, Step, Fresh, Run, start, after, stone, replay, turnOver, turnAfter, putAfter, turnIn, putIn}
-use Rattle.runs.specs.Laws.Step.{cond-same, new-field, step-sound, step-lent, step-history, step-turn, step-black, step-white}
+use Rattle.runs.specs.Laws.Step.{new-field, step-sound, step-lent, step-history, step-turn, step-black, step-white}
 use Rattle.runs.specs.Holds.{Held, historyAfter}
 use Rattle.runs.specs.Laws.Table.{board-table}
 use Rattle.runs.specs.Orders.{First, rowsOf, acceptedOf}

@@ -22,6 +22,7 @@ use Rattle.board.specs.Board.{coloursOf}
 use Rattle.game.specs.declared.state.Game.{Game}
 use Rattle.game.specs.View.{turnOf, viewOf, TrueState, RoomIn}
 use Rattle.game.specs.Promise.{Called, CalledAlone}
+use Rattle.replaying.specs.Laws.Entry.{cond-same}
 use Rattle.runs.specs.Runs as runs
 use Rattle.runs.specs.Runs.{Call, Reply, Desk, Sound, Alone, Step, accepted, turnOver, putOver, turnAfter, putAfter}
 use Rattle.runs.specs.Holds.{historyAfter}
@@ -29,10 +30,6 @@ use Rattle.runs.specs.Laws.Lent.{Lent, lent-same, stone-lent}
 use Rattle.runs.specs.Laws.Replay.{Over, replay-over}
 
 -- ---- A result of the rules
-
-pub cond-same : {A : Type 0} (t : Bool) (x : A) → cond t x x ≡ x
-cond-same true x = refl
-cond-same false x = refl
 
 module _ (a : Answer) (g : rules.Game) (bytes : List ℕ) (new : rules.Game) (newBytes : List ℕ) where
   -- a field of the game that a call gives
