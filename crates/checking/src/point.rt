@@ -1,20 +1,22 @@
 // What a stone of the player to move is answered at a point: on the board, empty, and the four tests by the flags.
 use crate::refusal::told;
 use crate::spot::Spot;
-use crate::spot::spot_at;
+use crate::spot::spot_of;
 use crate::superko::Told;
 use crate::superko::repeats;
 use chains::group::index;
 use game::calls::player_of;
+use game::clock::Clock;
+use game::clock::clock_of;
 use game::state::Game;
 use game::state::NO_POINT;
 use legality::near::Near;
+use looking::look::Sight;
 use looking::look::look_at;
 use points::answers::ACCEPTED;
 use points::answers::OFF_BOARD;
 use points::answers::POINT_NOT_EMPTY;
 use points::answers::SUPER_KO;
-use points::coord::two_to_1dim;
 use points::sizes::MAX_AREA;
 ghost use mathlib.Core.Path.{_≡_};
 ghost use lib.ListN.{length};
@@ -22,9 +24,13 @@ ghost use Rattle.rules.specs.Sizes.{maxArea};
 ghost use Rattle.rules.specs.Records.{recorded};
 ghost use Rattle.rules.specs.Answers.{number, refuse, SuperKo};
 ghost use Rattle.rules.specs.Calls.{resulting, pointAnswer};
+ghost use Rattle.board.specs.declared.goban.Board.{Board};
+ghost use Rattle.board.specs.True.{TrueBoard};
+ghost use Rattle.looking.specs.Seen.{Sees};
+ghost use Rattle.game.specs.Clock.{gameOf};
 ghost use Rattle.game.specs.View.{viewOf, TrueState, RoomIn};
 ghost use Rattle.checking.specs.Told.{atKo, toldSpot, toldNear};
-ghost use Rattle.checking.specs.Asking.{Repeating};
+ghost use Rattle.checking.specs.Asking.{Repeating, ToldAt};
 
 pub fn is_ko_point(ko: u16, point: usize) -> bool
     ensures { λ r. ⌜ r ≡ atKo ko point ⌝ }
@@ -76,29 +82,36 @@ pub fn told_of(
     }
 }
 
+// The same of a row and a column, by what is seen of a board there: for every true board that looks so.
+pub fn told_by(sight: Sight, clock: Clock, flags: u8, row: u8, column: u8) -> Told
+    ensures { λ r. ⌜ ((b : Board) → TrueBoard b → Sees b row column sight → ToldAt (gameOf b clock) flags row column r) ⌝ }
+{
+    let spot = spot_of(&sight.colours, sight.height, sight.width, row, column);
+    let near = sight.near;
+    let mover = player_of(clock.turn);
+    told_of(
+        spot,
+        near,
+        &sight.colours,
+        sight.height,
+        sight.width,
+        mover,
+        clock.ko,
+        clock.records,
+        flags,
+    )
+}
+
 // The answer of a true state whose history was judged too.
 pub fn point_answer(game: Game, history: &[u8], flags: u8, row: u8, column: u8) -> u8
     requires { ⌜ TrueState game × RoomIn game (length (now history)) ⌝ }
     ensures { λ r. ⌜ r ≡ number (pointAnswer (viewOf game) (now (history .entry)) flags row column) ⌝ }
 {
-    let spot = spot_at(game.board, row, column);
-    let point = two_to_1dim(game.board.width, row, column);
-    let sight = look_at(game.board, point);
-    let near = sight.near;
-    let mover = player_of(game.turn);
-    let answer = told_of(
-        spot,
-        near,
-        &sight.colours,
-        game.board.height,
-        game.board.width,
-        mover,
-        game.ko,
-        game.records,
-        flags,
-    );
+    let sight = look_at(game.board, row, column);
+    let clock = clock_of(game);
+    let answer = told_by(sight, clock, flags, row, column);
     let Told::Answer(number) = answer else {
-        return superko_answer(game, history, point);
+        return superko_answer(game, history, sight.point);
     };
     number
 }

@@ -1,12 +1,12 @@
-// Where a stone would go: a row and a column, looked up on a true board.
-use board::goban::Board;
+// Where a stone would go: a row and a column, looked up among the colours that are seen of a board.
+use eyes::eye::colour_at;
 use points::coord::is_coord_valid;
 use points::coord::two_to_1dim;
-use queries::goban::Owner;
-use queries::goban::owner_at;
+use points::sizes::MAX_AREA;
+use points::stones::EMPTY;
 ghost use mathlib.Core.Path.{_≡_};
-ghost use Rattle.board.specs.Board.{coloursOf};
-ghost use Rattle.board.specs.True.{TrueBoard};
+ghost use lib.ListN.{length};
+ghost use Rattle.rules.specs.Sizes.{maxArea};
 ghost use Rattle.checking.specs.Spot.{spotOf};
 
 // Off the board, a point where a stone stands, or an empty point.
@@ -16,18 +16,16 @@ pub enum Spot {
     Empty(usize),
 }
 
-pub fn spot_at(board: Board, row: u8, column: u8) -> Spot
-    requires { ⌜ TrueBoard board ⌝ }
-    ensures { λ r. ⌜ r ≡ spotOf (board .height) (board .width) (coloursOf board) row column ⌝ }
+pub fn spot_of(colours: &[u8; MAX_AREA], height: u8, width: u8, row: u8, column: u8) -> Spot
+    requires { ⌜ length (now colours) ≡ maxArea ⌝ }
+    ensures { λ r. ⌜ r ≡ spotOf height width (now (colours .entry)) row column ⌝ }
 {
-    if !is_coord_valid(board.height, board.width, row, column) {
+    if !is_coord_valid(height, width, row, column) {
         return Spot::Off;
     }
-    let point = two_to_1dim(board.width, row, column);
-    // A copy of the owners, which is short, in place of one of the board.
-    let owners = board.owners;
-    let Owner::Slot(_) = owner_at(&owners, point) else {
-        return Spot::Empty(point);
-    };
-    Spot::Stone
+    let point = two_to_1dim(width, row, column);
+    if colour_at(colours, point) != EMPTY {
+        return Spot::Stone;
+    }
+    Spot::Empty(point)
 }

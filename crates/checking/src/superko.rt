@@ -70,7 +70,8 @@ pub fn repeats(game: Game, history: &[u8], point: usize) -> bool
     ensures { λ r. ⌜ r ≡ recorded (now (history .entry)) (game .records) (resulting (viewOf game) point) ⌝ }
 {
     let laid = lay(game.board, point, player_of(game.turn), game.flags);
-    let left = look_at(laid.board, point);
-    let bytes = record_by(laid.board.hash, &left.colours);
+    // what stands beside a point of it is not asked
+    let left = look_at(laid.board, 0, 0);
+    let bytes = record_by(left.hash, &left.colours);
     is_recorded(history, game.records, &bytes)
 }

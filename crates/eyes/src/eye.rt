@@ -27,7 +27,7 @@ pub enum Said {
 }
 
 // The colour of a point; beyond the largest board nothing stands.
-fn colour_at(colours: &[u8; MAX_AREA], point: usize) -> u8
+pub fn colour_at(colours: &[u8; MAX_AREA], point: usize) -> u8
     requires { ⌜ length (now colours) ≡ maxArea ⌝ }
     ensures { λ r. ⌜ r ≡ at (now (colours .entry)) point ⌝ }
 {

@@ -3,18 +3,21 @@ use mathlib.Core.List.{List, map}
 use mathlib.Core.Path.{_≡_}
 use Prim.Native.Nat.{ℕ, _≤_, _<_}
 use lib.ListN.{length, getD}
-use Rattle.rules.specs.Sizes.{maxArea}
+use Rattle.rules.specs.Sizes.{maxArea, slots}
 use Rattle.rules.specs.Lists.{tabulate}
 use Rattle.rules.specs.Colours.{empty}
-use Rattle.rules.specs.Points.{area, neighbours}
+use Rattle.rules.specs.Points.{area, index, neighbours}
 use Rattle.rules.specs.Chain.{size, liberties}
 use Rattle.chains.specs.declared.group.Chain.{Chain}
 use Rattle.sets.specs.Liberties.{number}
 use Rattle.history.specs.Packing.{onLargest}
 use Rattle.legality.specs.declared.near.Near.{Near}
 use Rattle.legality.specs.declared.near.Beside.{Beside}
-use Rattle.legality.specs.Near.{inFour, ofStone}
+use Rattle.legality.specs.Near.{inFour, ofStone, nearOf}
+use Rattle.board.specs.declared.goban.Board.{Board}
+use Rattle.board.specs.Board.{coloursOf}
 use Rattle.looking.specs.declared.look.Seen.{Seen}
+use Rattle.looking.specs.declared.look.Sight.{Sight}
 
 -- what is seen of a chain
 unfoldable pub chainSeen : Chain → Beside
@@ -54,3 +57,17 @@ nearIn h w cs ls ss p =
       liberties = inFour (map (λ q. getD ls q 0) (neighbours h w p));
       stones = inFour (map (λ q. getD ss q 0) (neighbours h w p));
     }
+
+-- a slot of the table, and the owner where it is one
+pub record Readable (owner slot : ℕ) : Type 0 where
+  pub within : slot < slots
+  pub owned : owner < slots → slot ≡ owner
+
+-- all that a sight tells is the board's
+pub record Sees (b : Board) (r c : ℕ) (s : Sight) : Type 0 where
+  pub height : s .height ≡ b .height
+  pub width : s .width ≡ b .width
+  pub hash : s .hash ≡ b .hash
+  pub point : s .point ≡ index (b .width) r c
+  pub near : s .near ≡ nearOf (b .height) (b .width) (coloursOf b) (s .point)
+  pub colours : s .colours ≡ onLargest (coloursOf b)

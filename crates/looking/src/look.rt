@@ -7,16 +7,19 @@ use legality::near::Beside;
 use legality::near::Near;
 use points::coord::area;
 use points::coord::neighbours;
+use points::coord::two_to_1dim;
 use points::sizes::MAX_AREA;
 use points::sizes::SLOTS;
 use points::stones::EMPTY;
 use sets::liberties::number_of_liberties;
+ghost use mathlib.Core.Bool.{cond};
 ghost use mathlib.Core.Path.{_≡_};
+ghost use lib.Dec.{ltb};
+ghost use Rattle.rules.specs.Sizes.{slots};
+ghost use Rattle.rules.specs.Colours.{empty};
 ghost use Rattle.board.specs.Board.{coloursOf};
 ghost use Rattle.board.specs.True.{TrueBoard};
-ghost use Rattle.history.specs.Packing.{onLargest};
-ghost use Rattle.legality.specs.Near.{nearOf};
-ghost use Rattle.looking.specs.Seen.{chainSeen, nothing, seenOf, Counted, Shows, nearIn};
+ghost use Rattle.looking.specs.Seen.{chainSeen, nothing, seenOf, Counted, Shows, nearIn, Readable, Sees};
 
 // Of each point the colour, and the liberties and stones of the chain there, 0 at an empty point.
 pub struct Seen {
@@ -25,9 +28,16 @@ pub struct Seen {
     pub stones: [u16; MAX_AREA],
 }
 
-// What is seen of a board for a stone at a point: what stands beside it, and the colours of all points.
+// What is seen of a board for a stone at a row and a column: all that the tests and the record ask of the board, so that they need no copy of it.
 pub struct Sight {
+    pub height: u8,
+    pub width: u8,
+    pub hash: u64,
+    // the number of the row and the column
+    pub point: usize,
+    // what stands beside it
     pub near: Near,
+    // of all points
     pub colours: [u8; MAX_AREA],
 }
 
@@ -133,12 +143,33 @@ pub fn near(
     }
 }
 
-// What a true board shows for a stone at a point. Both loops stand here, since a function for each would copy the board once more.
-pub fn look_at(board: Board, point: usize) -> Sight
-    requires { ⌜ TrueBoard board ⌝ }
-    ensures near { λ r. ⌜ r .near ≡ nearOf (board .height) (board .width) (coloursOf board) point ⌝ }
-    ensures colours { λ r. ⌜ r .colours ≡ onLargest (coloursOf board) ⌝ }
+// A slot that can be read, whatever owns a point: its owner, or the first where nobody does.
+fn readable(owner: usize) -> usize
+    ensures { λ r. ⌜ Readable owner r ⌝ }
 {
+    if owner < SLOTS {
+        return owner;
+    }
+    0
+}
+
+// The colour of a point, by its owner and the colour in the slot that was read.
+fn shade(owner: usize, colour: u8) -> u8
+    ensures { λ r. ⌜ r ≡ cond (ltb owner slots) colour empty ⌝ }
+{
+    if owner < SLOTS {
+        return colour;
+    }
+    EMPTY
+}
+
+// What a true board shows for a stone at a row and a column. Both loops stand here, since a function for each would copy the board once more. The second
+// reads a slot for every point and chooses after it: a branch there cannot be foreseen, and costs more.
+pub fn look_at(board: Board, row: u8, column: u8) -> Sight
+    requires { ⌜ TrueBoard board ⌝ }
+    ensures { λ r. ⌜ Sees board row column r ⌝ }
+{
+    let point = two_to_1dim(board.width, row, column);
     let around = neighbours(board.height, board.width, point);
     let beside = around.points;
     let count = around.count;
@@ -164,12 +195,9 @@ pub fn look_at(board: Board, point: usize) -> Sight
     let mut p = 0;
     while p < points {
         let owner = index(board.owners[p]);
-        let mut colour = EMPTY;
-        if owner < SLOTS {
-            let chain = board.chains[owner];
-            colour = chain.colour;
-        }
-        colours[p] = colour;
+        let slot = readable(owner);
+        let chain = board.chains[slot];
+        colours[p] = shade(owner, chain.colour);
         p += 1;
     }
     let near = Near {
@@ -179,6 +207,10 @@ pub fn look_at(board: Board, point: usize) -> Sight
         stones: near_stones,
     };
     Sight {
+        height: board.height,
+        width: board.width,
+        hash: board.hash,
+        point: point,
         near: near,
         colours: colours,
     }

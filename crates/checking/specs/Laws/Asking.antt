@@ -17,6 +17,7 @@ use Rattle.rules.specs.Tests.{inAtari, suicide, ko, eye, captures, superko}
 use Rattle.rules.specs.Answers.{OffBoard, PointNotEmpty, number, accepts}
 use Rattle.rules.specs.Calls.{offBoard, taken, resulting, forbiddenAnswer, pointAnswer}
 use Rattle.rules.specs.Laws.Lists.{and-right, not-yes, not-both}
+use Rattle.board.specs.declared.goban.Board.{Board}
 use Rattle.board.specs.Board.{coloursOf}
 use Rattle.rules.specs.Laws.Answers.{zero-accepts, refused-then, passed-then}
 use Rattle.rules.specs.Laws.Calls.{accepted-on, accepted-empty, accepted-no-suicide}
@@ -25,7 +26,12 @@ use Rattle.history.specs.Packing.{onLargest}
 use Rattle.laying.specs.Laying.{Laying}
 use Rattle.legality.specs.declared.near.Near.{Near}
 use Rattle.legality.specs.Near.{nearOf, besides, saves, catchesMore, caught}
+use Rattle.looking.specs.declared.look.Sight.{Sight}
+use Rattle.looking.specs.Seen.{Sees}
+use Rattle.looking.specs.Laws.Sight.{sight-at}
 use Rattle.game.specs.declared.state.Game.{Game}
+use Rattle.game.specs.declared.clock.Clock.{Clock}
+use Rattle.game.specs.Clock.{gameOf}
 use Rattle.game.specs.View.{turnOf, koOf, viewOf, TrueState, RoomIn}
 use Rattle.game.specs.Laws.View.{turn-player}
 use Rattle.checking.specs.declared.spot.Spot.{Spot}
@@ -35,7 +41,7 @@ use Rattle.checking.specs.declared.superko.Told.the-variants.{Answer, If
 use Rattle.checking.specs.Spot.{spotOf}
 use Rattle.checking.specs.Told.{atKo, toldOf, toldNear, toldSpot, settled, known, undecided}
 use Rattle.checking.specs.Asking.{Asking, Repeating, ToldAt}
-use Rattle.checking.specs.Laws.Spot.{Free, off-outside, stone-taken, empty-free, free-on, free-empty}
+use Rattle.checking.specs.Laws.Spot.{spot-same, Free, off-outside, stone-taken, empty-free, free-on, free-empty}
 use Rattle.checking.specs.Laws.Near.{own-suicide, its-ko, own-captures, own-eye}
 use Rattle.checking.specs.Laws.Told.{told-settled, told-captures}
 
@@ -163,6 +169,19 @@ module _ (g : Game) (flags r c : ℕ) (is : TrueBoard (g .board)) (s : Spot) (fo
 
   pub told-at : (t : Told) → t ≡ toldSpot s there → ToldAt g flags r c t
   told-at t told = subst (ToldAt g flags r c) (sym told) (told-spot s refl)
+
+-- by what is seen of a board there
+pub told-seen : (b : Board) (k : Clock) (flags r c : ℕ) → TrueBoard b → (s : Sight) → Sees b r c s → (x : Spot) → x ≡ spotOf (s .height) (s .width) (s .colours) r c
+    → (own : ℕ) → own ≡ turnOf (k .turn) → (t : Told)
+    → t ≡ toldSpot x (toldNear flags (s .near) (s .colours) (s .height) (s .width) own (k .ko) (k .records)) → ToldAt (gameOf b k) flags r c t
+unfolding gameOf
+told-seen b k flags r c is s sees x found own mover t told =
+    told-at (gameOf b k) flags r c is x
+    (found
+    ∙ (λ i. spotOf (sees .height i) (sees .width i) (s .colours) r c)
+    ∙ spot-same (b .height) (b .width) (s .colours) (coloursOf b) r c (sight-at b is (s .colours) (sees .colours) (index (b .width) r c)))
+    (s .near) (sees .near ∙ ap (nearOf (b .height) (b .width) (coloursOf b)) (sees .point)) (s .colours) (sees .colours) own mover t
+    (told ∙ (λ i. toldSpot x (toldNear flags (s .near) (s .colours) (sees .height i) (sees .width i) own (k .ko) (k .records))))
 
 -- ---- What passes so far may be laid
 

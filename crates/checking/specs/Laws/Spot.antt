@@ -84,6 +84,11 @@ module _ (h w : ℕ) (cols : List ℕ) (r c : ℕ) where
   pub free-empty : (p : ℕ) → Free p → at cols p ≡ colours.empty
   free-empty p f = ap (at cols) (f .here) ∙ eqb-true _ colours.empty (f .vacant)
 
+-- only the colour of the point is asked
+pub spot-same : (h w : ℕ) (cs cols : List ℕ) (r c : ℕ) → at cs (index w r c) ≡ at cols (index w r c) → spotOf h w cs r c ≡ spotOf h w cols r c
+unfolding spotOf
+spot-same h w cs cols r c e = ap (λ (x : ℕ). cond (outside h w r c) Off (cond (eqb x colours.empty) (Empty (index w r c)) Stone)) e
+
 -- the row and the column of a point lead to the point
 pub spot-of : (h w : ℕ) (cols : List ℕ) (p : ℕ) → p < area h w
     → spotOf h w cols (row w p) (column w p) ≡ cond (eqb (at cols p) colours.empty) (Empty p) Stone

@@ -14,6 +14,8 @@ use Rattle.board.specs.declared.goban.Board.{Board}
 use Rattle.board.specs.Board.{owner, coloursOf}
 use Rattle.board.specs.True.{TrueBoard}
 use Rattle.board.specs.Laws.Board.{area-fits, length-colours, at-colours, empty-unowned, owned-player}
+use Rattle.looking.specs.declared.look.Sight.{Sight}
+use Rattle.looking.specs.Seen.{Sees}
 use Rattle.history.specs.Packing.{onLargest, colourPart, recordBy, Packing}
 use Rattle.history.specs.Laws.Packing.{length-onLargest, at-onLargest, part-onLargest}
 
@@ -35,11 +37,18 @@ module _ (b : Board) (is : TrueBoard b) where
     pub sight-at : (p : ℕ) → at cs p ≡ at (coloursOf b) p
     sight-at p = ap (λ (x : List ℕ). at x p) seen ∙ at-onLargest (coloursOf b) colours-fit p
 
-    pub sight-packing : Packing cs
+    sight-packing : Packing cs
     sight-packing = record { long = sight-long; small = λ p. rw (sight-at p) (small p) }
 
-    pub sight-record : recordBy (b .hash) cs ≡ recordOf (coloursOf b)
+    sight-record : recordBy (b .hash) cs ≡ recordOf (coloursOf b)
     unfolding recordBy colourPart recordOf
     sight-record =
         ap (recordBy (b .hash)) seen
         ∙ ap₂ (λ (x : ℕ) (part : List ℕ). lowBytes hashBytes x ++ (part ++ (0 ∷ []))) (is .table .hashed) (part-onLargest (coloursOf b) colours-fit)
+
+  module _ (r c : ℕ) (s : Sight) (sees : Sees b r c s) where
+    pub sees-packing : Packing (s .colours)
+    sees-packing = sight-packing (s .colours) (sees .colours)
+
+    pub sees-record : recordBy (s .hash) (s .colours) ≡ recordOf (coloursOf b)
+    sees-record = ap (λ (hash : ℕ). recordBy hash (s .colours)) (sees .hash) ∙ sight-record (s .colours) (sees .colours)

@@ -4,13 +4,14 @@ use mathlib.Core.Bool.{Bool, false, cond}
 use mathlib.Core.Logic.{_≢_, ⊎-elim}
 use Prim.Native.Nat.{ℕ, _≤_, _<_}
 use native.Mathlib.Omega.{arith}
+use lib.Dec.{ltb}
 use lib.ListN.{getD, List·getD-eq-default}
-use borrow.Author.Tests.{eq-eqb, ne-eqb}
+use borrow.Author.Tests.{eq-eqb, ne-eqb, ltb-true, ltb-false}
 use Rattle.rules.specs.Sizes.{maxArea, slots}
 use Rattle.rules.specs.Lists.{below}
 use Rattle.rules.specs.Colours.{empty, at}
 use Rattle.rules.specs.Chain.{size, liberties}
-use Rattle.rules.specs.Laws.Lists.{equal-or-not, getD-default}
+use Rattle.rules.specs.Laws.Lists.{equal-or-not, decided, getD-default}
 use Rattle.rules.specs.Laws.Counting.{count-none}
 use Rattle.chains.specs.declared.group.Chain.{Chain}
 use Rattle.chains.specs.Group.{freeChain}
@@ -21,8 +22,9 @@ use Rattle.board.specs.Board.{owner, chainIn, colourAt, coloursOf}
 use Rattle.board.specs.True.{TrueBoard, Shaped}
 use Rattle.board.specs.Laws.Board.{at-colours, no-chain}
 use Rattle.board.specs.Laws.Views.{empty-owner, chain-size, chain-liberties}
+use Rattle.legality.specs.declared.near.Beside.{Beside}
 use Rattle.legality.specs.Near.{ofStone}
-use Rattle.looking.specs.Seen.{chainSeen, nothing}
+use Rattle.looking.specs.Seen.{chainSeen, nothing, Readable}
 
 number-nothing : number none ≡ 0
 unfolding none
@@ -47,6 +49,18 @@ module _ (b : Board) (is : TrueBoard b) (q : ℕ) (low : q < maxArea) (o : ℕ) 
 
   pub nothing-read : slots ≤ o → nothing ≡ chainSeen (chainIn b (owner b q))
   nothing-read l = sym (seen-nothing b (is .table .shape) o l) ∙ ap (λ (s : ℕ). chainSeen (chainIn b s)) owner-read
+
+  -- the colour of the owner's chain, where any slot is read and the owner decides after it
+  pub shade-read : (s : ℕ) → Readable o s → (d : Chain) → cond (ltb o slots) (getD (b .chains) s d .colour) empty ≡ chainSeen (chainIn b (owner b q)) .colour
+  unfolding chainSeen nothing
+  shade-read s reads d =
+      ⊎-elim
+      (λ t.
+      ap (λ (x : Bool). cond x (getD (b .chains) s d .colour) empty) t
+      ∙ ap (λ (k : ℕ). getD (b .chains) k d .colour) (reads .owned (ltb-true o slots t))
+      ∙ ap (λ (x : Chain). x .colour) (chain-read (ltb-true o slots t) d))
+      (λ t. ap (λ (x : Bool). cond x (getD (b .chains) s d .colour) empty) t ∙ ap (λ (x : Beside). x .colour) (nothing-read (ltb-false o slots t)))
+      (decided (ltb o slots))
 
 -- what the board's points show beside their colours
 abbrev pub libertiesAt : Board → ℕ → ℕ

@@ -10,7 +10,7 @@ use Rattle.rules.specs.Laws.Records.{length-record}
 use Rattle.board.specs.Board.{coloursOf}
 use Rattle.history.specs.History.{among}
 use Rattle.history.specs.Laws.History.{among-recorded}
-use Rattle.looking.specs.Laws.Sight.{sight-packing, sight-record}
+use Rattle.looking.specs.Laws.Sight.{sees-packing, sees-record}
 use Rattle.game.specs.View.{RoomIn, viewOf}
 use Rattle.checking.specs.Laws.Asking.{repeating-laying}
 use Rattle.checking.proofs.superko.repeats.Statement.{statement}
@@ -28,14 +28,14 @@ look-at-requires c κs = search needs
 record-by-requires : tie.Need-record-by-requires
 record-by-requires c κs =
     let looked = c .before .before in
-    sight-packing (looked .before .lay .result .board) (looked .before .lay .ensures .board) _ (looked .look-at .ensures .1)
+    sees-packing (looked .before .lay .result .board) (looked .before .lay .ensures .board) _ _ _ (looked .look-at .ensures)
 
 -- the record of the board that is laid
 left-record : (c : tie.After-record-by) → c .record-by .result ≡ recordOf (coloursOf (c .before .before .before .before .lay .result .board))
 left-record c =
     let looked = c .before .before .before in
     let laid = looked .before in
-    c .record-by .ensures ∙ sight-record (laid .lay .result .board) (laid .lay .ensures .board) _ (looked .look-at .ensures .1)
+    c .record-by .ensures ∙ sees-record (laid .lay .result .board) (laid .lay .ensures .board) _ _ _ (looked .look-at .ensures)
 
 is-recorded-requires : tie.Need-is-recorded-requires
 unfolding RoomIn capacity

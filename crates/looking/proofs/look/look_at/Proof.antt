@@ -10,14 +10,13 @@ use Rattle.rules.specs.Sizes.{maxArea}
 use Rattle.rules.specs.Points.{area}
 use Rattle.rules.specs.Colours.{at}
 use Rattle.points.specs.Laws.Around.{around-on}
-use Rattle.chains.specs.declared.group.Chain.{Chain}
 use Rattle.board.specs.Board.{owner, chainIn, coloursOf}
 use Rattle.board.specs.Laws.Board.{area-fits, length-colours}
 use Rattle.history.specs.Packing.{onLargest}
 use Rattle.legality.specs.declared.near.Beside.{Beside}
 use Rattle.legality.specs.Near.{inFour, nearOf}
-use Rattle.looking.specs.Seen.{chainSeen, nothing}
-use Rattle.looking.specs.Laws.Table.{libertiesAt, stonesAt, chain-read, nothing-read, colour-told, liberties-told, stones-told}
+use Rattle.looking.specs.Seen.{chainSeen}
+use Rattle.looking.specs.Laws.Table.{libertiesAt, stonesAt, chain-read, nothing-read, shade-read, colour-told, liberties-told, stones-told}
 use Rattle.looking.proofs.Sides.{Seeing, more, all}
 use Rattle.looking.proofs.Points.{Upto, none-yet, whole}
 use Rattle.looking.proofs.Points as points
@@ -25,17 +24,17 @@ use Rattle.looking.proofs.look.look_at.Statement.{statement}
 use Rattle.looking.proofs.look.look_at.Tie as tie
 
 abbrev Inv-loop : tie.InvT-loop
-Inv-loop point board beside count colours₀ liberties₀ stones₀ side₀ colours liberties stones side =
+Inv-loop row column board point beside count colours₀ liberties₀ stones₀ side₀ colours liberties stones side =
     Seeing (at (coloursOf board)) (libertiesAt board) (stonesAt board) beside count colours liberties stones side
 
 abbrev μ-loop : tie.MeasureT-loop
-μ-loop point board beside count colours₀ liberties₀ stones₀ side₀ colours liberties stones side = count - side
+μ-loop row column board point beside count colours₀ liberties₀ stones₀ side₀ colours liberties stones side = count - side
 
 abbrev Inv-loop2 : tie.InvT-loop2
-Inv-loop2 point board beside count near-colours near-liberties near-stones points colours₀ p₀ colours p = Upto (at (coloursOf board)) colours p
+Inv-loop2 row column board point beside count near-colours near-liberties near-stones points colours₀ p₀ colours p = Upto (at (coloursOf board)) colours p
 
 abbrev μ-loop2 : tie.MeasureT-loop2
-μ-loop2 point board beside count near-colours near-liberties near-stones points colours₀ p₀ colours p = points - p
+μ-loop2 row column board point beside count near-colours near-liberties near-stones points colours₀ p₀ colours p = points - p
 
 -- ---- The points beside
 
@@ -51,11 +50,14 @@ point-on c =
     let test = c .before in
     let loop = test .before in
     let near = loop .before .before in
-    let start = near .before in
+    let start = near .before .before in
     let b = start .args .t1 in
     let on : getD (near .neighbours .result .points) (loop .loop .side) 0 < area (b .height) (b .width) =
-    around-on (b .height) (b .width) (start .args .point) (near .neighbours .result) (near .neighbours .ensures) (loop .loop .side) (test .loop-test .taken) in
+    around-on (b .height) (b .width) (near .before .two-to-1dim .result) (near .neighbours .result) (near .neighbours .ensures) (loop .loop .side) (test .loop-test .taken) in
     omega (arith, on, c .index .ensures, area-fits (start .pre .table .size))
+
+two-to-1dim-requires : tie.Need-two-to-1dim-requires Inv-loop μ-loop Inv-loop2 μ-loop2
+two-to-1dim-requires c κs = search needs
 
 neighbours-requires : tie.Need-neighbours-requires Inv-loop μ-loop Inv-loop2 μ-loop2
 neighbours-requires c κs = search needs
@@ -100,12 +102,12 @@ side-in c = in-four (c .before .before .before .before .before)
 -- what is seen is what the table says of the point beside
 shown : (c : tie.Joined1 Inv-loop μ-loop Inv-loop2 μ-loop2)
     → let read = c .before .before .before .before in
-    let b = read .before .before .before .before .before .args .t1 in
+    let b = read .before .before .before .before .before .before .args .t1 in
     c .if1 .seen ≡ chainSeen (chainIn b (owner b (read .index .result)))
 shown c =
     let owned = c .before .before in
     let read = owned .before .before in
-    let start = read .before .before .before .before .before in
+    let start = read .before .before .before .before .before .before in
     let b = start .args .t1 in
     let q = read .index .result in
     ⊎-elim
@@ -139,7 +141,7 @@ loop-again c =
     let read = c .before .before .before .before in
     let test = read .before in
     let loop = test .before in
-    let start = loop .before .before .before in
+    let start = loop .before .before .before .before in
     let b = start .args .t1 in
     let is = start .pre in
     let q = read .index .result in
@@ -155,7 +157,7 @@ loop-again c =
 place : (c : tie.In-loop2 Inv-loop μ-loop Inv-loop2 μ-loop2) → c .before .loop2 .p < maxArea
 place c =
     let measured = c .before .before in
-    let start = measured .before .before .before .before .before in
+    let start = measured .before .before .before .before .before .before in
     omega (arith, c .loop2-test .taken, measured .area .ensures, area-fits (start .pre .table .size))
 
 area-requires : tie.Need-area-requires Inv-loop μ-loop Inv-loop2 μ-loop2
@@ -173,38 +175,40 @@ element-copy-out-index-2 c = place c
 index-requires-3 : tie.Need-index-requires-3 Inv-loop μ-loop Inv-loop2 μ-loop2
 index-requires-3 c κs = search needs
 
+readable-requires : tie.Need-readable-requires Inv-loop μ-loop Inv-loop2 μ-loop2
+readable-requires c κs = search needs
+
 mul-chain : tie.Need-mul-chain Inv-loop μ-loop Inv-loop2 μ-loop2
-mul-chain c = omega arith
+mul-chain c = omega (arith, c .readable .ensures .within)
 
 element-copy-out-chain : tie.Need-element-copy-out-chain Inv-loop μ-loop Inv-loop2 μ-loop2
-element-copy-out-chain c = omega arith
+element-copy-out-chain c = c .readable .ensures .within
+
+shade-requires : tie.Need-shade-requires Inv-loop μ-loop Inv-loop2 μ-loop2
+shade-requires c κs = search needs
 
 array-write-colours : tie.Need-array-write-colours Inv-loop μ-loop Inv-loop2 μ-loop2
-array-write-colours c = place (c .before .before .before)
+array-write-colours c = place (c .before .before .before .before .before)
 
 add-p : tie.Need-add-p Inv-loop μ-loop Inv-loop2 μ-loop2
-add-p c = omega (arith, place (c .before .before .before))
+add-p c = omega (arith, place (c .before .before .before .before .before))
 
 loop2-less : tie.Need-loop2-less Inv-loop μ-loop Inv-loop2 μ-loop2
-loop2-less c = omega (arith, c .before .before .before .loop2-test .taken)
+loop2-less c = omega (arith, c .before .before .before .before .before .loop2-test .taken)
 
 loop2-again : tie.Need-loop2-again Inv-loop μ-loop Inv-loop2 μ-loop2
-unfolding chainSeen nothing
 loop2-again c =
-    let owned = c .before in
+    let read = c .before .before in
+    let owned = read .before in
     let test = owned .before .before in
     let loop = test .before in
-    let start = loop .before .before .before .before .before .before in
+    let start = loop .before .before .before .before .before .before .before in
     let b = start .args .t1 in
     let is = start .pre in
     let p = loop .loop2 .p in
     let low = place test in
     points.more (at (coloursOf b)) _ p _ (loop .loop2 .inv) low
-    (⊎-elim
-    (λ w. w .2 ∙ ap (λ (x : Chain). x .colour) (chain-read b is p low _ (owned .index3 .ensures) (w .0 .taken) _))
-    (λ w. w .1 ∙ ap (λ (x : Beside). x .colour) (nothing-read b is p low _ (owned .index3 .ensures) (w .0 .left)))
-    (c .if2 .came)
-    ∙ colour-told b is p)
+    (c .shade .ensures ∙ shade-read b is p low _ (owned .index3 .ensures) _ (read .readable .ensures) _ ∙ colour-told b is p)
 
 returns : tie.Need-returns Inv-loop μ-loop Inv-loop2 μ-loop2
 unfolding nearOf onLargest at
@@ -213,13 +217,21 @@ returns c =
     let done = read .before .before in
     let loop = done .before in
     let near = loop .before .before in
-    let start = near .before in
-    let b = start .args .t1 in (
-      all _ _ _ (b .height) (b .width) (start .args .point) (near .neighbours .result) (near .neighbours .ensures) _ _ _ _ (loop .loop .inv) (done .loop-test .left),
-      whole (at (coloursOf b)) _ _ (read .loop2 .inv)
+    let start = near .before .before in
+    let b = start .args .t1 in
+    record {
+      height = refl;
+      width = refl;
+      hash = refl;
+      point = near .before .two-to-1dim .ensures;
+      near =
+          all _ _ _ (b .height) (b .width) (near .before .two-to-1dim .result) (near .neighbours .result) (near .neighbours .ensures) _ _ _ _
+          (loop .loop .inv) (done .loop-test .left);
+      colours =
+          whole (at (coloursOf b)) _ _ (read .loop2 .inv)
           (λ k beyond low.
-          List·getD-eq-default (coloursOf b) 0 {n = k} (omega (arith, length-colours b, read .before .area .ensures, c .loop2-test .left))),
-    )
+          List·getD-eq-default (coloursOf b) 0 {n = k} (omega (arith, length-colours b, read .before .area .ensures, c .loop2-test .left)));
+    }
 
 pub look-at-spec : {M : Type 1} → statement M
 look-at-spec =
@@ -229,6 +241,7 @@ look-at-spec =
     μ-loop
     Inv-loop2
     μ-loop2
+    two-to-1dim-requires
     neighbours-requires
     loop-holds
     mul-index
@@ -254,8 +267,10 @@ look-at-spec =
     mul-index-3
     element-copy-out-index-2
     index-requires-3
+    readable-requires
     mul-chain
     element-copy-out-chain
+    shade-requires
     array-write-colours
     add-p
     loop2-less
