@@ -6,9 +6,9 @@ use chains::group::free_chain;
 use chains::group::index;
 use chains::group::walk;
 use hashing::zobrist::stone_hash;
-use hashing::zobrist::table;
 use points::coord::Place;
 use points::coord::neighbour;
+use points::sizes::HASH_ENTRIES;
 use points::sizes::MAX_AREA;
 use points::sizes::SLOTS;
 use sets::liberties::add_liberty;
@@ -16,6 +16,7 @@ ghost use mathlib.Core.Path.{_≡_};
 ghost use lib.ListN.{length, take};
 ghost use Rattle.rules.specs.Sizes.{maxArea};
 ghost use Rattle.steps.specs.Steps as steps;
+ghost use Rattle.steps.specs.Numbers.{Numbers};
 ghost use Rattle.steps.specs.Removing.{Removing, Points, gainer};
 
 // The chain with one liberty more.
@@ -60,24 +61,31 @@ fn gaining_slot(
 }
 
 // The hash without stones of this colour on the points of the list.
-fn unhash(stones: &[u16; MAX_AREA], count: usize, colour: u8, hash: u64) -> u64
+fn unhash(
+    numbers: &[u64; HASH_ENTRIES],
+    stones: &[u16; MAX_AREA],
+    count: usize,
+    colour: u8,
+    hash: u64,
+) -> u64
     requires { ⌜ Points (now stones) count ⌝ }
+    requires { ⌜ Numbers (now numbers) ⌝ }
     ensures { λ r. ⌜ r ≡ steps.unhashed colour (take count (now (stones .entry))) hash ⌝ }
 {
-    let numbers = table();
     let mut result = hash;
     let mut k = 0;
     while k < count {
         let point = index(stones[k]);
-        result = result ^ stone_hash(&numbers, point, colour);
+        result = result ^ stone_hash(numbers, point, colour);
         k += 1;
     }
     result
 }
 
 // The board without the chain in the slot.
-pub fn remove_chain(board: Board, slot: usize) -> Board
+pub fn remove_chain(board: Board, numbers: &[u64; HASH_ENTRIES], slot: usize) -> Board
     requires { ⌜ Removing board slot ⌝ }
+    requires { ⌜ Numbers (now numbers) ⌝ }
     ensures { λ r. ⌜ r ≡ steps.remove board slot ⌝ }
 {
     let next = board.next;
@@ -102,7 +110,7 @@ pub fn remove_chain(board: Board, slot: usize) -> Board
         }
     }
     own(&mut result.owners, &next, chain, SLOTS);
-    let hash = unhash(&stones, walked, chain.colour, result.hash);
+    let hash = unhash(numbers, &stones, walked, chain.colour, result.hash);
     result.hash = hash;
     let free = free_chain();
     result.chains[slot] = free;

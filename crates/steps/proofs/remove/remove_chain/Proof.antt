@@ -17,15 +17,15 @@ use Rattle.steps.proofs.remove.remove_chain.Statement.{statement}
 use Rattle.steps.proofs.remove.remove_chain.Tie as tie
 
 abbrev Inv-loop : tie.InvT-loop
-Inv-loop slot next result₀ chain stones origin count walked height width last k₀ result k = (k ≤ last) × (result ≡ turned result₀ slot stones k)
+Inv-loop numbers slot next result₀ chain stones origin count walked height width last k₀ result k = (k ≤ last) × (result ≡ turned result₀ slot stones k)
 
 abbrev μ-loop : tie.MeasureT-loop
-μ-loop slot next result₀ chain stones origin count walked height width last k₀ result k = last - k
+μ-loop numbers slot next result₀ chain stones origin count walked height width last k₀ result k = last - k
 
 -- the chain that is read is the slot's
 read : (c : tie.Start Inv-loop μ-loop) → getD (c .args .board .chains) (c .args .slot) past ≡ chainIn (c .args .board) (c .args .slot)
 unfolding chainIn
-read c = getD-default (c .args .board .chains) (c .args .slot) past freeChain (omega (arith, c .pre .low, c .pre .table .shape .chains))
+read c = getD-default (c .args .board .chains) (c .args .slot) past freeChain (omega (arith, c .pre .0 .low, c .pre .0 .table .shape .chains))
 
 first : (c : tie.After-index Inv-loop μ-loop)
     → let a = c .before .before .before .args in c .index .result ≡ chainIn (a .board) (a .slot) .origin
@@ -42,7 +42,7 @@ stones : (c : tie.After-walk Inv-loop μ-loop)
 stones c =
     let counted = c .before .before .before in
     let start = counted .before .before .before .before in
-    wrote-chain (start .args .board) (start .args .slot) (start .pre) (counted .before .index .result) (counted .index2 .result)
+    wrote-chain (start .args .board) (start .args .slot) (start .pre .0) (counted .before .index .result) (counted .index2 .result)
     (c .walk .result) (c .walk .last .1 .1 .1 .0) (first (counted .before)) (many counted) (c .walk .ensures .0) (c .walk .ensures .1)
 
 points : (c : tie.After-walk Inv-loop μ-loop) → Points (c .walk .last .1 .1 .1 .0) (c .walk .result)
@@ -54,13 +54,13 @@ kept c =
     let start = c .before .before .before .before .before .before .before .before in
     ap (λ r. length (r .owners)) (c .loop .inv .1)
     ∙ ap length (turned-owners (start .args .board) (start .args .slot) (c .before .walk .last .1 .1 .1 .0) (c .loop .k))
-    ∙ start .pre .table .shape .owners
+    ∙ start .pre .0 .table .shape .owners
 
 mul-chain : tie.Need-mul-chain Inv-loop μ-loop
-mul-chain c = omega (arith, c .before .pre .low)
+mul-chain c = omega (arith, c .before .pre .0 .low)
 
 element-copy-out-chain : tie.Need-element-copy-out-chain Inv-loop μ-loop
-element-copy-out-chain c = c .before .pre .low
+element-copy-out-chain c = c .before .pre .0 .low
 
 index-requires : tie.Need-index-requires Inv-loop μ-loop
 index-requires c κs = search needs
@@ -119,7 +119,7 @@ loop-again c =
       omega arith,
       turned-hit (start .args .board) (start .args .slot) (loop .before .walk .last .1 .1 .1 .0) (loop .loop .result) (loop .loop .k)
           (c .before .before .before .before .before .before .index3 .result) (c .before .before .before .gaining-slot .result)
-          (loop .loop .inv .1) (start .pre .table .shape .chains) (c .before .before .before .before .before .before .index3 .ensures)
+          (loop .loop .inv .1) (start .pre .0 .table .shape .chains) (c .before .before .before .before .before .before .index3 .ensures)
           (c .before .before .before .gaining-slot .ensures) (c .gain .result) (c .before .before .if1 .taken) (c .gain .ensures),
     )
 
@@ -133,7 +133,7 @@ loop-again-2 c =
       omega arith,
       turned-miss (start .args .board) (start .args .slot) (loop .before .walk .last .1 .1 .1 .0) (loop .loop .result) (loop .loop .k)
           (c .before .before .before .before .index3 .result) (c .before .gaining-slot .result)
-          (loop .loop .inv .1) (start .pre .table .shape .chains) (c .before .before .before .before .index3 .ensures)
+          (loop .loop .inv .1) (start .pre .0 .table .shape .chains) (c .before .before .before .before .index3 .ensures)
           (c .before .gaining-slot .ensures) (c .if1 .left),
     )
 
@@ -141,22 +141,24 @@ own-requires : tie.Need-own-requires Inv-loop μ-loop
 own-requires c κs =
     let loop = c .before .before .before in
     let start = loop .before .before .before .before .before .before .before .before in (
-      walkable (start .args .board) (start .args .slot) (start .pre) (loop .loop .result .owners) _ _ (kept loop)
+      walkable (start .args .board) (start .args .slot) (start .pre .0) (loop .loop .result .owners) _ _ (kept loop)
           (ap (λ x. x .origin) (read start)) (ap (λ x. x .count) (read start)),
       omega arith,
     )
 
 unhash-requires : tie.Need-unhash-requires Inv-loop μ-loop
-unhash-requires c κs = points (c .before .before .before .before .before .before)
+unhash-requires c κs =
+    let loop = c .before .before .before .before .before in
+    (points (loop .before), loop .before .before .before .before .before .before .before .before .pre .1)
 
 free-chain-requires : tie.Need-free-chain-requires Inv-loop μ-loop
 free-chain-requires c κs = search needs
 
 mul-free : tie.Need-mul-free Inv-loop μ-loop
-mul-free c = let low = c .before .before .before .before .before .before .before .before .before .before .before .before .before .before .before .pre .low in omega arith
+mul-free c = let low = c .before .before .before .before .before .before .before .before .before .before .before .before .before .before .before .pre .0 .low in omega arith
 
 element-set-from-free : tie.Need-element-set-from-free Inv-loop μ-loop
-element-set-from-free c = c .before .before .before .before .before .before .before .before .before .before .before .before .before .before .before .pre .low
+element-set-from-free c = c .before .before .before .before .before .before .before .before .before .before .before .before .before .before .before .pre .0 .low
 
 returns : tie.Need-returns Inv-loop μ-loop
 returns c =
@@ -165,11 +167,11 @@ returns c =
     let n = loop .before .walk .result in
     let out = loop .before .walk .last .1 .1 .1 .0 in
     let done : loop .loop .k ≡ 4 * n = omega (arith, loop .loop .inv .0, c .before .before .before .before .before .before .loop-test .left) in
-    turned-removed (start .args .board) (start .args .slot) out n _ (loop .loop .result) (start .pre .low) (start .pre .table .shape .chains)
+    turned-removed (start .args .board) (start .args .slot) out n _ (loop .loop .result) (start .pre .0 .low) (start .pre .0 .table .shape .chains)
     (omega (arith, points (loop .before) .long, points (loop .before) .few)) (stones (loop .before) .0) (ap (λ x. x .colour) (read start))
     (loop .loop .inv .1 ∙ ap (turned (start .args .board) (start .args .slot) out) done)
     (c .before .unhash .result) (c .before .unhash .ensures)
-    _ (walked-ring (start .args .board) (start .args .slot) (start .pre) _ _ (ap (λ x. x .origin) (read start)) (ap (λ x. x .count) (read start)))
+    _ (walked-ring (start .args .board) (start .args .slot) (start .pre .0) _ _ (ap (λ x. x .origin) (read start)) (ap (λ x. x .count) (read start)))
     (c .before .before .before .own .last .0) (c .before .before .before .own .ensures) (c .free-chain .result) (c .free-chain .ensures)
 
 pub remove-chain-spec : {M : Type 1} → statement M

@@ -16,13 +16,10 @@ use Rattle.steps.proofs.remove.unhash.Statement.{statement}
 use Rattle.steps.proofs.remove.unhash.Tie as tie
 
 abbrev Inv-loop : tie.InvT-loop
-Inv-loop stones count colour hash numbers result₀ k₀ result k = (k ≤ count) × (result ≡ unhashed colour (take k stones) hash)
+Inv-loop numbers stones count colour hash result₀ k₀ result k = (k ≤ count) × (result ≡ unhashed colour (take k stones) hash)
 
 abbrev μ-loop : tie.MeasureT-loop
-μ-loop stones count colour hash numbers result₀ k₀ result k = count - k
-
-table-requires : tie.Need-table-requires Inv-loop μ-loop
-table-requires c κs = search needs
+μ-loop numbers stones count colour hash result₀ k₀ result k = count - k
 
 loop-holds : tie.Need-loop-holds Inv-loop μ-loop
 loop-holds c = (omega arith, refl)
@@ -47,21 +44,21 @@ loop-less c = omega arith
 
 loop-again : tie.Need-loop-again Inv-loop μ-loop
 loop-again c =
-    let loop = c .before .before .before .before .before in
-    let a = loop .before .before .args in
+    let loop = c .before .before .before .before in
+    let a = loop .before .args in
     let k = loop .loop .k in
-    let on = loop .before .before .pre .each k (omega arith) in (
+    let on = loop .before .pre .0 .each k (omega arith) in (
       omega arith,
       ap₂ bitXor (loop .loop .inv .1)
           (c .stone-hash .ensures
-          ∙ ap (λ (p : ℕ). cond (ltb p maxArea) (stoneHash p (a .colour)) 0) (c .before .before .index .ensures)
+          ∙ ap (λ (p : ℕ). cond (ltb p maxArea) (stoneHash p (a .colour)) 0) (c .before .index .ensures)
           ∙ ap (λ (x : Bool). cond x (stoneHash (getD (a .stones .now) k 0) (a .colour)) 0) (lt-ltb (getD (a .stones .now) k 0) maxArea on))
           ∙ unhashed-more (a .colour) (a .stones .now) (a .hash) k (omega arith),
     )
 
 returns : tie.Need-returns Inv-loop μ-loop
 returns c =
-    let a = c .before .before .before .args in
+    let a = c .before .before .args in
     let k = c .before .loop .k in
     let ended : k ≡ a .count = omega arith in
     c .before .loop .inv .1 ∙ ap (λ (n : ℕ). unhashed (a .colour) (take n (a .stones .now)) (a .hash)) ended
@@ -72,7 +69,6 @@ unhash-spec =
     (tie.spec
     Inv-loop
     μ-loop
-    table-requires
     loop-holds
     mul-index
     element-copy-out-index
