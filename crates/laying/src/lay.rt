@@ -5,10 +5,11 @@ use chains::group::Chain;
 use chains::group::free_chain;
 use chains::group::index;
 use chains::group::new_chain;
-use hashing::zobrist::index_zobrist;
+use hashing::zobrist::stone_hash;
 use points::coord::Around;
 use points::coord::Place;
 use points::coord::neighbours;
+use points::sizes::HASH_ENTRIES;
 use points::sizes::MAX_AREA;
 use points::sizes::SLOTS;
 use points::stones::other;
@@ -30,6 +31,7 @@ ghost use Rattle.rules.specs.Sizes.{maxArea, slots};
 ghost use Rattle.rules.specs.Flags.{SUICIDE, forbids};
 ghost use Rattle.points.specs.Place.{placeOf};
 ghost use Rattle.sets.specs.Liberties.{number};
+ghost use Rattle.steps.specs.Numbers.{Numbers};
 ghost use Rattle.laying.specs.Laying.{Laying, LaidOut};
 
 // The board after the stone, how many enemy and own stones were removed, and the ko point.
@@ -122,8 +124,15 @@ fn is_lifted(chain: Chain, beside: bool, enemy: u8, flags: u8) -> bool
 }
 
 // A stone of this colour on the point. All is done on one copy of the board, which a step would copy again.
-pub fn lay(mut board: Board, point: usize, colour: u8, flags: u8) -> Laid
+pub fn lay(
+    mut board: Board,
+    numbers: &[u64; HASH_ENTRIES],
+    point: usize,
+    colour: u8,
+    flags: u8,
+) -> Laid
     requires { ⌜ Laying board point colour flags ⌝ }
+    requires { ⌜ Numbers (now numbers) ⌝ }
     ensures { λ r. ⌜ LaidOut board point colour flags r ⌝ }
 {
     let mut slot = 0;
@@ -144,7 +153,7 @@ pub fn lay(mut board: Board, point: usize, colour: u8, flags: u8) -> Laid
     }
     board.owners[point] = slot as u16;
     board.next[point] = point as u16;
-    board.hash = board.hash ^ index_zobrist(point, colour);
+    board.hash = board.hash ^ stone_hash(numbers, point, colour);
     board.chains[slot] = stone;
     i = 0;
     while i < around.count {
@@ -177,7 +186,7 @@ pub fn lay(mut board: Board, point: usize, colour: u8, flags: u8) -> Laid
         if owner < SLOTS {
             let chain = board.chains[owner];
             if is_lifted(chain, beside, enemy, flags) {
-                board = remove_chain(board, owner);
+                board = remove_chain(board, numbers, owner);
                 if beside {
                     taken += chain.count;
                     prisoner = index(chain.origin);

@@ -47,29 +47,29 @@ abbrev points : Around → List ℕ
 points around = take (around .count) (around .points)
 
 abbrev Inv-loop : tie.InvT-loop
-Inv-loop point colour flags board slot₀ slot = firstFree 0 (board .chains) ≡ firstFree slot (drop slot (board .chains))
+Inv-loop numbers point colour flags board slot₀ slot = firstFree 0 (board .chains) ≡ firstFree slot (drop slot (board .chains))
 
 abbrev μ-loop : tie.MeasureT-loop
-μ-loop point colour flags board slot₀ slot = slots - slot
+μ-loop numbers point colour flags board slot₀ slot = slots - slot
 
 abbrev Inv-loop2 : tie.InvT-loop2
-Inv-loop2 point colour flags board₀ slot around stone₀ i₀ board stone i = Passed board₀ point colour (around .points) (around .count) board stone i
+Inv-loop2 numbers point colour flags board₀ slot around stone₀ i₀ board stone i = Passed board₀ point colour (around .points) (around .count) board stone i
 
 abbrev μ-loop2 : tie.MeasureT-loop2
-μ-loop2 point colour flags board₀ slot around stone₀ i₀ board stone i = around .count - i
+μ-loop2 numbers point colour flags board₀ slot around stone₀ i₀ board stone i = around .count - i
 
 abbrev Inv-loop3 : tie.InvT-loop3
-Inv-loop3 point colour flags board₀ slot₀ around i₀ board slot i = Gathering board₀ point colour slot₀ (points around) i board slot
+Inv-loop3 numbers point colour flags board₀ slot₀ around i₀ board slot i = Gathering board₀ point colour slot₀ (points around) i board slot
 
 abbrev μ-loop3 : tie.MeasureT-loop3
-μ-loop3 point colour flags board₀ slot₀ around i₀ board slot i = around .count - i
+μ-loop3 numbers point colour flags board₀ slot₀ around i₀ board slot i = around .count - i
 
 abbrev Inv-loop4 : tie.InvT-loop4
-Inv-loop4 point colour flags board₀ slot around i₀ enemy taken₀ lost₀ prisoner₀ board i taken lost prisoner =
+Inv-loop4 numbers point colour flags board₀ slot around i₀ enemy taken₀ lost₀ prisoner₀ board i taken lost prisoner =
     Lifting board₀ enemy (points around) (forbids flags SUICIDE) slot i board taken lost prisoner
 
 abbrev μ-loop4 : tie.MeasureT-loop4
-μ-loop4 point colour flags board₀ slot around i₀ enemy taken₀ lost₀ prisoner₀ board i taken lost prisoner = around .count + 1 - i
+μ-loop4 numbers point colour flags board₀ slot around i₀ enemy taken₀ lost₀ prisoner₀ board i taken lost prisoner = around .count + 1 - i
 
 -- what is read past the end of an array of chains
 abbrev past : Chain
@@ -91,7 +91,7 @@ abbrev Passing : Type 0
 Passing = tie.At-loop2 Inv-loop μ-loop Inv-loop2 μ-loop2 Inv-loop3 μ-loop3 Inv-loop4 μ-loop4
 
 abbrev Put : Type 0
-Put = tie.After-index-zobrist Inv-loop μ-loop Inv-loop2 μ-loop2 Inv-loop3 μ-loop3 Inv-loop4 μ-loop4
+Put = tie.After-stone-hash Inv-loop μ-loop Inv-loop2 μ-loop2 Inv-loop3 μ-loop3 Inv-loop4 μ-loop4
 
 abbrev Joins : Type 0
 Joins = tie.At-loop3 Inv-loop μ-loop Inv-loop2 μ-loop2 Inv-loop3 μ-loop3 Inv-loop4 μ-loop4
@@ -109,7 +109,7 @@ abbrev End : Type 0
 End = tie.Else7 Inv-loop μ-loop Inv-loop2 μ-loop2 Inv-loop3 μ-loop3 Inv-loop4 μ-loop4
 
 slot-low : (c : Searching) → c .loop .slot < slots
-slot-low c = search-low _ (c .before .pre .board) _ (c .loop .inv)
+slot-low c = search-low _ (c .before .pre .0 .board) _ (c .loop .inv)
 
 -- what is given; the code changes its board in place, so that its name here is another
 abbrev first : Near → Start
@@ -122,10 +122,10 @@ abbrev around : Near → Around
 around n = n .neighbours .result
 
 largest : (n : Near) → Largest (first n .args .t1)
-largest n = first n .pre .board .largest
+largest n = first n .pre .0 .board .largest
 
 putting : (n : Near) → Putting (first n .args .t1) (first n .args .point) (first n .args .colour) (free n)
-putting n = search-found _ (first n .pre .board) _ (n .before .before .loop .inv) past _ _ _ (first n .pre) (n .before .if1 .left)
+putting n = search-found _ (first n .pre .0 .board) _ (n .before .before .loop .inv) past _ _ _ (first n .pre .0) (n .before .if1 .left)
 
 fits : (n : Near) → first n .args .point < maxArea
 fits n = point-fits (putting n)
@@ -157,7 +157,7 @@ abbrev near-pass : Passing → Near
 near-pass c = c .before .before .before
 
 passed-long : (c : Passing) → length (c .loop2 .board .owners) ≡ maxArea
-passed-long c = passed-owners _ _ _ _ _ _ _ _ (c .loop2 .inv) ∙ first (near-pass c) .pre .board .table .shape .owners
+passed-long c = passed-owners _ _ _ _ _ _ _ _ (c .loop2 .inv) ∙ first (near-pass c) .pre .0 .board .table .shape .owners
 
 abbrev passes : Put → Passing
 passes c = c .before .before .before
@@ -167,7 +167,7 @@ near-put c = near-pass (passes c)
 
 abbrev start : Put → Board
 start c =
-    placed (passes c .loop2 .board) (first (near-put c) .args .point) (free (near-put c)) (c .index-zobrist .result) (passes c .loop2 .stone)
+    placed (passes c .loop2 .board) (first (near-put c) .args .point) (free (near-put c)) (c .stone-hash .result) (passes c .loop2 .stone)
 
 is-put :
     (c : Put) →
@@ -175,8 +175,8 @@ is-put :
 is-put c =
     let n = near-put c in
     let args = first n .args in
-    passed-all _ _ _ _ _ _ _ _ (passes c .loop2 .inv) (c .before .if2 .left) (listed n) (free n) (c .index-zobrist .result)
-    (c .index-zobrist .ensures
+    passed-all _ _ _ _ _ _ _ _ (passes c .loop2 .inv) (c .before .if2 .left) (listed n) (free n) (c .stone-hash .result)
+    (c .stone-hash .ensures
     ∙ ap (λ (t : Bool). cond t (stoneHash (args .point) (args .colour)) 0) (lt-ltb (args .point) maxArea (fits n)))
 
 -- ---- Joining
@@ -225,7 +225,7 @@ joining c =
 -- ---- Lifting
 
 enemy : (c : tie.After-other Inv-loop μ-loop Inv-loop2 μ-loop2 Inv-loop3 μ-loop3 Inv-loop4 μ-loop4) → Player (c .other .result)
-enemy c = subst Player (sym (c .other .ensures)) (other-player _ (first (near-put (c .before .before .before .before)) .pre .player))
+enemy c = subst Player (sym (c .other .ensures)) (other-player _ (first (near-put (c .before .before .before .before)) .pre .0 .player))
 
 abbrev joins-end : Takes → Joins
 joins-end c = c .before .before .before .before
@@ -255,7 +255,7 @@ gathered c =
 
 mine-low : (c : Takes) → mine c < slots
 mine-low c =
-    end-low _ _ _ _ _ (first (near-take c) .pre) (putting (near-take c)) _ (is-put (put-end c)) _ (listed (near-take c)) _ _ (gathered c)
+    end-low _ _ _ _ _ (first (near-take c) .pre .0) (putting (near-take c)) _ (is-put (put-end c)) _ (listed (near-take c)) _ _ (gathered c)
 
 -- what is taken of the enemy that the code names is what is taken of the other colour
 of-other :
@@ -269,7 +269,7 @@ of-other c after stones point e =
 
 stands : (c : Takes) → Stands (whole c) (c .before .other .result) (beside c) (forbids (first (near-take c) .args .flags) SUICIDE) (mine c)
 stands c after stones point e =
-    end-used _ _ _ _ _ (first (near-take c) .pre) (putting (near-take c)) _ (is-put (put-end c)) _ (listed (near-take c)) _ _ (gathered c) _ _ _
+    end-used _ _ _ _ _ (first (near-take c) .pre .0) (putting (near-take c)) _ (is-put (put-end c)) _ (listed (near-take c)) _ _ (gathered c) _ _ _
     (of-other c after stones point e)
 
 abbrev takes-of : Turn-2 → Takes
@@ -326,7 +326,7 @@ loop-less : tie.Need-loop-less Inv-loop μ-loop Inv-loop2 μ-loop2 Inv-loop3 μ-
 loop-less c = let low = slot-low (c .before) in omega arith
 
 loop-again : tie.Need-loop-again Inv-loop μ-loop Inv-loop2 μ-loop2 Inv-loop3 μ-loop3 Inv-loop4 μ-loop4
-loop-again c = search-next _ (c .before .before .pre .board) _ (c .before .loop .inv) _ (c .if1 .taken)
+loop-again c = search-next _ (c .before .before .pre .0 .board) _ (c .before .loop .inv) _ (c .if1 .taken)
 
 neighbours-requires : tie.Need-neighbours-requires Inv-loop μ-loop Inv-loop2 μ-loop2 Inv-loop3 μ-loop3 Inv-loop4 μ-loop4
 neighbours-requires c κs = search needs
@@ -388,7 +388,7 @@ loop2-again c =
     let test = turn .before .before .before .before .before .if2 .taken in
     passed-owned _ _ _ _ _ _ _ _ (loop .loop2 .inv) test (omega (arith, four n, few n, test))
     _ (turn .before .before .owner-beside .ensures) _ (turn .before .point-beside .ensures) _ (turn .opened .ensures)
-    (first n .pre .board .table .shape .chains) (c .before .before .if3 .taken) past _ (c .without .ensures)
+    (first n .pre .0 .board .table .shape .chains) (c .before .before .if3 .taken) past _ (c .without .ensures)
 
 loop2-less-2 : tie.Need-loop2-less-2 Inv-loop μ-loop Inv-loop2 μ-loop2 Inv-loop3 μ-loop3 Inv-loop4 μ-loop4
 loop2-less-2 c = omega arith
@@ -401,7 +401,7 @@ loop2-again-2 c =
     let test = turn .before .before .before .before .before .if2 .taken in
     passed-unowned _ _ _ _ _ _ _ _ (loop .loop2 .inv) test (omega (arith, four n, few n, test))
     _ (turn .before .before .owner-beside .ensures) _ (turn .before .point-beside .ensures) _ (turn .opened .ensures)
-    (first n .pre .board .table .shape .chains) (c .if3 .left)
+    (first n .pre .0 .board .table .shape .chains) (c .if3 .left)
 
 cast-board : tie.Need-cast-board Inv-loop μ-loop Inv-loop2 μ-loop2 Inv-loop3 μ-loop3 Inv-loop4 μ-loop4
 cast-board c = omega (arith, putting (near-pass (c .before .before)) .within)
@@ -421,8 +421,8 @@ mul-board-2 c = omega (arith, fits (near-pass (c .before .before)))
 element-write-board-2 : tie.Need-element-write-board-2 Inv-loop μ-loop Inv-loop2 μ-loop2 Inv-loop3 μ-loop3 Inv-loop4 μ-loop4
 element-write-board-2 c = fits (near-pass (c .before .before))
 
-index-zobrist-requires : tie.Need-index-zobrist-requires Inv-loop μ-loop Inv-loop2 μ-loop2 Inv-loop3 μ-loop3 Inv-loop4 μ-loop4
-index-zobrist-requires c κs = search needs
+stone-hash-requires : tie.Need-stone-hash-requires Inv-loop μ-loop Inv-loop2 μ-loop2 Inv-loop3 μ-loop3 Inv-loop4 μ-loop4
+stone-hash-requires c κs = search needs
 
 mul-stone : tie.Need-mul-stone Inv-loop μ-loop Inv-loop2 μ-loop2 Inv-loop3 μ-loop3 Inv-loop4 μ-loop4
 mul-stone c = omega (arith, putting (near-put c) .within)
@@ -554,10 +554,12 @@ tested c =
 
 remove-chain-requires : tie.Need-remove-chain-requires Inv-loop μ-loop Inv-loop2 μ-loop2 Inv-loop3 μ-loop3 Inv-loop4 μ-loop4
 remove-chain-requires c κs =
-    let turn = c .before .before .before .before .before in
-    lifting-removing _ _ _ _ _ (enemy (takes-of turn .before)) (mine-low (takes-of turn)) (stands (takes-of turn)) _ _ _ _ _ (takes-of turn .loop4 .inv) (in-turn-2 turn) _
-    (here-2 turn) _ (its-2 turn)
-    past (c .before .before .before .if8 .taken) _ (tested (c .before)) (c .if9 .taken)
+    let turn = c .before .before .before .before .before in (
+      lifting-removing _ _ _ _ _ (enemy (takes-of turn .before)) (mine-low (takes-of turn)) (stands (takes-of turn)) _ _ _ _ _ (takes-of turn .loop4 .inv) (in-turn-2 turn) _
+          (here-2 turn) _ (its-2 turn)
+          past (c .before .before .before .if8 .taken) _ (tested (c .before)) (c .if9 .taken),
+      first (near-2 turn) .pre .1,
+    )
 
 add-taken : tie.Need-add-taken Inv-loop μ-loop Inv-loop2 μ-loop2 Inv-loop3 μ-loop3 Inv-loop4 μ-loop4
 add-taken c =
@@ -624,7 +626,7 @@ returns : tie.Need-returns Inv-loop μ-loop Inv-loop2 μ-loop2 Inv-loop3 μ-loop
 returns c =
     let loop = takes-end (c .before) in
     let end = ended (c .before) in
-    laid-out _ _ _ _ _ (first (near-take loop) .pre) (putting (near-take loop)) _ (is-put (put-end loop)) _ (listed (near-take loop)) _ _ (gathered loop) _ _ _
+    laid-out _ _ _ _ _ (first (near-take loop) .pre .0) (putting (near-take loop)) _ (is-put (put-end loop)) _ (listed (near-take loop)) _ _ (gathered loop) _ _ _
     (of-other loop _ _ _ (taking-all _ _ _ (enemy (loop .before)) _ _ _ _ (end .taken) (omega arith)))
     _ _ refl (end .same) refl (end .lost) (c .ko-point .ensures)
 
@@ -670,7 +672,7 @@ lay-spec =
     cast-board-2
     mul-board-2
     element-write-board-2
-    index-zobrist-requires
+    stone-hash-requires
     mul-stone
     element-set-from-stone
     loop3-holds
