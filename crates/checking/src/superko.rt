@@ -1,6 +1,7 @@
 // The superko test. Only a capture brings a board back, so only there is the stone laid on a copy and the board looked for.
 use game::calls::player_of;
 use game::state::Game;
+use hashing::zobrist::table;
 use history::lent::is_recorded;
 use history::packing::record_by;
 use laying::lay::lay;
@@ -69,7 +70,14 @@ pub fn repeats(game: Game, history: &[u8], point: usize) -> bool
     requires { ⌜ Repeating game (length (now history)) point ⌝ }
     ensures { λ r. ⌜ r ≡ recorded (now (history .entry)) (game .records) (resulting (viewOf game) point) ⌝ }
 {
-    let laid = lay(game.board, point, player_of(game.turn), game.flags);
+    let numbers = table();
+    let laid = lay(
+        game.board,
+        &numbers,
+        point,
+        player_of(game.turn),
+        game.flags,
+    );
     // what stands beside a point of it is not asked
     let left = look_at(laid.board, 0, 0);
     let bytes = record_by(left.hash, &left.colours);

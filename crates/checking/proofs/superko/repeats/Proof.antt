@@ -16,11 +16,14 @@ use Rattle.checking.specs.Laws.Asking.{repeating-laying}
 use Rattle.checking.proofs.superko.repeats.Statement.{statement}
 use Rattle.checking.proofs.superko.repeats.Tie as tie
 
+table-requires : tie.Need-table-requires
+table-requires c κs = search needs
+
 player-of-requires : tie.Need-player-of-requires
 player-of-requires c κs = search needs
 
 lay-requires : tie.Need-lay-requires
-lay-requires c κs = repeating-laying _ _ _ (c .before .before .pre) _ (c .player-of .ensures)
+lay-requires c κs = (repeating-laying _ _ _ (c .before .before .before .before .pre) _ (c .player-of .ensures), c .before .before .table .ensures)
 
 look-at-requires : tie.Need-look-at-requires
 look-at-requires c κs = search needs
@@ -41,7 +44,7 @@ is-recorded-requires : tie.Need-is-recorded-requires
 unfolding RoomIn capacity
 is-recorded-requires c κs =
     let written = c .before in
-    let start = written .before .before .before .before .before .before .before in
+    let start = written .before .before .before .before .before .before .before .before .before in
     record { within = start .pre .asking .room; long = ap length (left-record written) ∙ length-record _ }
 
 returns : tie.Need-returns
@@ -49,7 +52,7 @@ unfolding resulting viewOf
 returns c =
     let written = c .before .before in
     let laid = written .before .before .before .before in
-    let a = laid .before .before .before .args in
+    let a = laid .before .before .before .before .before .args in
     c .is-recorded .ensures
     ∙ ap (among (a .history .now) (a .game .records)) (left-record written)
     ∙ among-recorded (a .history .now) (a .game .records) _
@@ -60,4 +63,4 @@ returns c =
 pub repeats-spec : {M : Type 1} → statement M
 repeats-spec =
     tie.close
-    (tie.spec player-of-requires lay-requires look-at-requires record-by-requires is-recorded-requires returns)
+    (tie.spec table-requires player-of-requires lay-requires look-at-requires record-by-requires is-recorded-requires returns)
