@@ -3,6 +3,7 @@
 use crate::place::Placed;
 use crate::place::place;
 use board::goban::Board;
+use hashing::zobrist::table;
 use points::answers::ACCEPTED;
 use points::answers::OFF_BOARD;
 use points::answers::POINT_NOT_EMPTY;
@@ -69,5 +70,6 @@ pub fn lay_handicap(board: Board, spots: &[u16]) -> Placed
     }
     let colours = marked.colours;
     let end = area(height, width);
-    place(board, &colours[..end])
+    let numbers = table();
+    place(board, &numbers, &colours[..end])
 }

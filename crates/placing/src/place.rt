@@ -4,10 +4,12 @@ use board::goban::Board;
 use laying::lay::lay;
 use points::answers::ACCEPTED;
 use points::answers::NO_LIBERTY;
+use points::sizes::HASH_ENTRIES;
 use points::stones::EMPTY;
 ghost use mathlib.Core.Path.{_≡_};
 ghost use mathlib.Core.Bool.{not, _&&_};
 ghost use lib.Dec.{eqb};
+ghost use Rattle.steps.specs.Numbers.{Numbers};
 ghost use Rattle.placing.specs.Placing.{Placing, PlacedOn};
 
 // What a call that makes a board gives: the answer, and the board.
@@ -25,8 +27,9 @@ fn chokes(taken: u16, lost: u16) -> bool
 }
 
 // The colours laid on an empty board; where a chain of them has no liberty, the board as it came.
-pub fn place(board: Board, colours: &[u8]) -> Placed
+pub fn place(board: Board, numbers: &[u64; HASH_ENTRIES], colours: &[u8]) -> Placed
     requires { ⌜ Placing board (now colours) ⌝ }
+    requires { ⌜ Numbers (now numbers) ⌝ }
     ensures { λ r. ⌜ PlacedOn board (now (colours .entry)) r ⌝ }
 {
     let mut result = board;
@@ -34,7 +37,7 @@ pub fn place(board: Board, colours: &[u8]) -> Placed
     while point < colours.len() {
         let colour = colours[point];
         if colour != EMPTY {
-            let laid = lay(result, point, colour, 0);
+            let laid = lay(result, numbers, point, colour, 0);
             if chokes(laid.taken, laid.lost) {
                 return Placed {
                     answer: NO_LIBERTY,

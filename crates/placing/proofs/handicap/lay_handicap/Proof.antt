@@ -21,27 +21,38 @@ returns c = handicap-refused _ (c .before .before .before .before .pre) _ _ (c .
 area-requires : tie.Need-area-requires
 area-requires c κs = search needs
 
+table-requires : tie.Need-table-requires
+table-requires c κs = search needs
+
+-- the spots were gone through, and what they make is to be placed
+abbrev marked : tie.After-area → tie.After-mark
+marked c = c .before .before .before .before
+
 array-share-prefix-colours : tie.Need-array-share-prefix-colours
 array-share-prefix-colours c =
-    let long : length (c .before .before .before .before .mark .result .colours) ≡ maxArea = search needs in
-    omega (arith, c .area .ensures, area-fits (c .before .before .before .before .before .before .pre .isTrue .table .size))
+    let end = c .before .before in
+    let long : length (marked end .mark .result .colours) ≡ maxArea = search needs in
+    omega (arith, end .area .ensures, area-fits (marked end .before .before .pre .isTrue .table .size))
 
 slice-aggregate-place : tie.Need-slice-aggregate-place
 slice-aggregate-place c = sym (length-take-le _ _ (array-share-prefix-colours (c .before)))
 
 place-requires : tie.Need-place-requires
 place-requires c κs =
-    let marked = c .before .before .before .before .before in
-    subst (λ (n : ℕ). Placing (marked .before .before .args .board) (take n (marked .mark .result .colours))) (sym (c .before .area .ensures))
-    (handicap-placing _ (marked .before .before .pre) _ _ (marked .mark .ensures) (c .before .before .before .if1 .left))
+    let end = c .before .before .before in
+    let spots = marked end in (
+      subst (λ (n : ℕ). Placing (spots .before .before .args .board) (take n (spots .mark .result .colours))) (sym (end .area .ensures))
+          (handicap-placing _ (spots .before .before .pre) _ _ (spots .mark .ensures) (end .before .before .if1 .left)),
+      c .before .before .table .ensures,
+    )
 
 returns-2 : tie.Need-returns-2
 returns-2 c =
-    let marked = c .before .before .before .before .before .before in
-    let b = marked .before .before .args .board in
-    handicap-placed _ (marked .before .before .pre) _ _ (marked .mark .ensures) (c .before .before .before .before .if1 .left) _
-    (subst (λ (n : ℕ). PlacedOn b (take n (marked .mark .result .colours)) (c .place .result))
-    (c .before .before .area .ensures) (c .place .ensures))
+    let end = c .before .before .before .before in
+    let spots = marked end in
+    handicap-placed _ (spots .before .before .pre) _ _ (spots .mark .ensures) (end .before .before .if1 .left) _
+    (subst (λ (n : ℕ). PlacedOn (spots .before .before .args .board) (take n (spots .mark .result .colours)) (c .place .result))
+    (end .area .ensures) (c .place .ensures))
 
 pub lay-handicap-spec : {M : Type 1} → statement M
 lay-handicap-spec =
@@ -50,6 +61,7 @@ lay-handicap-spec =
     mark-requires
     returns
     area-requires
+    table-requires
     array-share-prefix-colours
     slice-aggregate-place
     place-requires

@@ -17,13 +17,13 @@ use Rattle.placing.proofs.place.place.Statement.{statement}
 use Rattle.placing.proofs.place.place.Tie as tie
 
 abbrev Inv-loop : tie.InvT-loop
-Inv-loop board colours result₀ point₀ result point = (point ≤ length colours) × SoFar (board .height) (board .width) colours point result
+Inv-loop board numbers colours result₀ point₀ result point = (point ≤ length colours) × SoFar (board .height) (board .width) colours point result
 
 abbrev μ-loop : tie.MeasureT-loop
-μ-loop board colours result₀ point₀ result point = length colours - point
+μ-loop board numbers colours result₀ point₀ result point = length colours - point
 
 loop-holds : tie.Need-loop-holds Inv-loop μ-loop
-loop-holds c = (omega arith, so-far-none _ _ (c .before .pre))
+loop-holds c = (omega arith, so-far-none _ _ (c .before .pre .0))
 
 abbrev Turn : Type 0
 Turn = tie.After-shared-slice-known2 Inv-loop μ-loop
@@ -43,14 +43,14 @@ adding c =
     let l = loop c .loop in
     record {
       isTrue = l .inv .1 .isTrue;
-      on = so-far-on _ _ _ (start c .pre .covers) (l .point) (l .result) (l .inv .1) (omega arith);
+      on = so-far-on _ _ _ (start c .pre .0 .covers) (l .point) (l .result) (l .inv .1) (omega arith);
       vacant = l .inv .1 .rest (l .point) (omega arith);
-      known = start c .pre .known (l .point);
+      known = start c .pre .0 .known (l .point);
     }
 
 lay-requires : tie.Need-lay-requires Inv-loop μ-loop
 unfolding at
-lay-requires c κs = added-laying _ _ _ (adding (c .before)) (c .if1 .taken)
+lay-requires c κs = (added-laying _ _ _ (adding (c .before)) (c .if1 .taken), start (c .before) .pre .1)
 
 chokes-requires : tie.Need-chokes-requires Inv-loop μ-loop
 chokes-requires c κs = search needs
@@ -64,7 +64,7 @@ returns c =
     outcome-as
     (sym
     (refuses NoLiberty
-    (so-far-stuck _ _ _ (start turn .pre .covers) (l .point) (l .result) (l .inv .1) (omega arith)
+    (so-far-stuck _ _ _ (start turn .pre .0 .covers) (l .point) (l .result) (l .inv .1) (omega arith)
     (added-stuck _ _ _ (adding turn) (laid .before .if1 .taken) _ (laid .lay .ensures) _ (c .before .chokes .ensures) (c .if2 .taken)))))
     (outcome-refused refl refl refl)
 
@@ -80,7 +80,7 @@ loop-again c =
     let turn = c .before in
     let l = loop turn .loop in (
       omega arith,
-      so-far-next _ _ _ (start turn .pre .covers) (l .point) (l .result) (l .inv .1) (omega arith) _
+      so-far-next _ _ _ (start turn .pre .0 .covers) (l .point) (l .result) (l .inv .1) (omega arith) _
           (⊎-elim
           (λ (stone, laid, chokes, fine, after, e).
           subst (Stands _ _ _) (sym e) (added-stone _ _ _ (adding turn) (stone .taken) _ (laid .ensures) _ (chokes .ensures) (fine .left)))
@@ -93,7 +93,7 @@ unfolding number accepts
 returns-2 c =
     let l = c .before .loop in
     let start = c .before .before .before in
-    let stands = so-far-all _ _ _ (start .pre .covers) (l .point) (l .result) (l .inv .1) (omega arith) in
+    let stands = so-far-all _ _ _ (start .pre .0 .covers) (l .point) (l .result) (l .inv .1) (omega arith) in
     outcome-as (sym (passes NoLiberty (stands-free _ _ _ _ stands))) (outcome-accepted refl refl stands)
 
 pub place-spec : {M : Type 1} → statement M
