@@ -1,5 +1,6 @@
 // Boards made whole: a new one, and one from given colours.
 use board::goban::empty_board;
+use hashing::zobrist::table;
 use placing::place::Placed;
 use placing::place::place;
 use points::answers::ACCEPTED;
@@ -79,7 +80,8 @@ pub fn from_colours(height: u8, width: u8, colours: &[u8]) -> Placed
         return refused(BAD_COLOUR);
     }
     let board = new.board;
-    let placed = place(board, colours);
+    let numbers = table();
+    let placed = place(board, &numbers, colours);
     if placed.answer != ACCEPTED {
         return refused(placed.answer);
     }

@@ -47,14 +47,18 @@ made :
     Stands (a .height) (a .width) (emptyBoard (a .height) (a .width)) (c .before .before .new-board .result .board)
 made c = c .before .before .new-board .ensures .outcome .placed (sized c)
 
+-- the tests are passed
+abbrev tested : tie.After-place → tie.Else3
+tested c = c .before .before .before .before
+
 -- what the placement gave
 laid :
     (c : tie.After-place) →
-    let new = c .before .before .before .before .before .before in
+    let new = tested c .before .before .before .before in
     let a = new .before .before .before .before .args in
     Outcome (refuse NoLiberty (choked (a .height) (a .width) (a .colours .now))) (a .height) (a .width) (a .colours .now)
     (new .before .before .new-board .result .board) (c .place .result)
-laid c = placed-sized _ _ _ (made (c .before .before .before .before .before .before)) _ _ (c .place .ensures)
+laid c = placed-sized _ _ _ (made (tested c .before .before .before .before)) _ _ (c .place .ensures)
 
 new-board-requires : tie.Need-new-board-requires
 new-board-requires c κs = search needs
@@ -92,9 +96,13 @@ returns-3 c =
     (sym (c .before .before .any-unknown .ensures) ∙ c .before .if3 .taken)))
     (outcome-refused (c .refused2 .ensures .0) refl (c .refused2 .ensures .1))
 
+table-requires : tie.Need-table-requires
+table-requires c κs = search needs
+
 place-requires : tie.Need-place-requires
 place-requires c κs =
-    stands-placing _ _ _ (made (c .before .before .before .before .before)) _ (covers (c .before .before .before)) (known (c .before))
+    let last = c .before .before .before in
+    (stands-placing _ _ _ (made (last .before .before .before .before)) _ (covers (last .before .before)) (known last), c .before .table .ensures)
 
 refused-requires-3 : tie.Need-refused-requires-3
 refused-requires-3 c κs = search needs
@@ -103,14 +111,14 @@ returns-4 : tie.Need-returns-4
 returns-4 c =
     let o = laid (c .before .before .before) in
     let bad = other-refuses _ _ (o .answered) (c .before .if4 .taken) in
-    outcome-as (sym (all-tested (c .before .before .before .before .before)))
+    outcome-as (sym (all-tested (tested (c .before .before .before))))
     (outcome-refused (c .refused3 .ensures .0 ∙ o .answered) bad (c .refused3 .ensures .1))
 
 returns-5 : tie.Need-returns-5
 returns-5 c =
     let o = laid (c .before .before) in
     let ok = zero-accepts _ _ (o .answered) (c .if4 .left) in
-    outcome-as (sym (all-tested (c .before .before .before .before))) (outcome-accepted (o .answered) ok (o .placed ok))
+    outcome-as (sym (all-tested (tested (c .before .before)))) (outcome-accepted (o .answered) ok (o .placed ok))
 
 pub from-colours-spec : {M : Type 1} → statement M
 from-colours-spec =
@@ -124,6 +132,7 @@ from-colours-spec =
     any-unknown-requires
     refused-requires-2
     returns-3
+    table-requires
     place-requires
     refused-requires-3
     returns-4
