@@ -3,18 +3,27 @@ use mathlib.Core.Path.{_≡_}
 use mathlib.Core.List.{List}
 use mathlib.Core.Logic.{_≢_}
 use mathlib.Core.Bool.{Bool, true, false, cond}
-use Prim.Native.Nat.{ℕ, _<_}
+use Prim.Native.Nat.{ℕ, _≤_, _<_, _/_}
 use lib.Dec.{eqb}
-use Rattle.rules.specs.Sizes.{maxStones}
+use Rattle.rules.specs.Sizes.{maxStones, recordBytes}
 use Rattle.rules.specs.Points.{index}
-use Rattle.rules.specs.Records.{full}
+use Rattle.rules.specs.Records.{recordOf, full}
 use Rattle.rules.specs.Answers.{Answer, number, accepts, refuse, _then_, GamePaused, SuperKo, MoveLimit, HistoryFull}
 use Rattle.rules.specs.Calls.{pointAnswer, stone}
+use Rattle.board.specs.declared.goban.Board.{Board}
 use Rattle.board.specs.Board.{coloursOf}
 use Rattle.laying.specs.Laying.{Laying}
 use Rattle.history.specs.History.{Noted}
+use Rattle.history.specs.Packing.{recordBy, Packing}
+use Rattle.looking.specs.declared.look.Sight.{Sight}
+use Rattle.looking.specs.Seen.{Sees}
 use Rattle.game.specs.declared.state.Game.{Game}
-use Rattle.game.specs.View.{turnOf, viewOf}
+use Rattle.game.specs.declared.clock.Clock.{Clock}
+use Rattle.game.specs.Clock.{gameOf}
+use Rattle.game.specs.View.{turnOf, viewOf, TrueState, RoomIn}
+use Rattle.checking.specs.declared.superko.Told.{Told}
+use Rattle.checking.specs.Told.{known, undecided}
+use Rattle.checking.specs.Asking.{ToldAt}
 use Rattle.playing.specs.declared.stone.Turn.{Turn}
 use Rattle.playing.specs.Promise.{CalledTrue}
 
@@ -45,3 +54,47 @@ pub record Granted (g : Game) (bytes : List ℕ) (r c : ℕ) (turn : Turn) (byte
 pub record Tested (g : Game) (bytes : List ℕ) (r c : ℕ) (turn : Turn) (bytes′ : List ℕ) : Type 0 where
   pub refused : turn .answer ≢ 0 → CalledTrue (stone (viewOf g) bytes r c) g bytes (turn .answer) g bytes′
   pub granted : turn .answer ≡ 0 → Granted g bytes r c turn bytes′
+
+-- ---- By what is seen of the board
+
+-- the colours can be recorded, and the history has room for the records that the numbers count
+pub record Ready (s : Sight) (k : Clock) (n : ℕ) : Type 0 where
+  pub packing : Packing (s .colours)
+  pub colours : List ℕ
+  pub its : recordBy (s .hash) (s .colours) ≡ recordOf colours
+  pub room : k .records ≤ n / recordBytes
+
+-- the last tests, where the board has these colours, and it is known whether the one that the stone leaves is recorded
+pub record Finished (s : Sight) (k : Clock) (cols bytes : List ℕ) (again : Bool) (turn : Turn) (bytes′ : List ℕ) : Type 0 where
+  pub decided : turn .undecided ≡ false
+  pub point : turn .point ≡ s .point
+  pub mover : turn .mover ≡ turnOf (k .turn)
+  pub answered : turn .answer ≡ number (lastAnswer again (k .accepted) (full bytes (k .records) cols))
+  pub refused : turn .answer ≢ 0 → bytes′ ≡ bytes
+  pub noted : turn .answer ≡ 0 → Noted bytes (k .records) cols (turn .records) bytes′
+
+-- board and numbers are a true state with room in a history of n bytes, and this is seen of the board for a stone
+pub record Shown (b : Board) (s : Sight) (k : Clock) (n r c : ℕ) : Type 0 where
+  pub state : TrueState (gameOf b k)
+  pub room : RoomIn (gameOf b k) n
+  pub sees : Sees b r c s
+
+-- no test without the records refuses the stone, and the records decide
+pub record Undecided (g : Game) (r c : ℕ) : Type 0 where
+  pub told : Told
+  pub its : ToldAt g (g .flags) r c told
+  pub waits : undecided told ≡ true
+  pub passes : firstAnswer (g .passes) (known told) ≡ 0
+
+-- all tests, or those without the records, with the bytes as they were
+pub record FirstTested (g : Game) (bytes : List ℕ) (r c : ℕ) (turn : Turn) (bytes′ : List ℕ) : Type 0 where
+  pub decided : turn .undecided ≡ false → Tested g bytes r c turn bytes′
+  pub waits : turn .undecided ≡ true → Undecided g r c
+  pub lent : turn .undecided ≡ true → bytes′ ≡ bytes
+
+-- some row and column where the records decide
+pub record Settling (b : Board) (s : Sight) (k : Clock) (n : ℕ) : Type 0 where
+  pub row : ℕ
+  pub column : ℕ
+  pub shown : Shown b s k n row column
+  pub waits : Undecided (gameOf b k) row column

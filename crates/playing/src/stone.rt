@@ -5,8 +5,7 @@ use crate::count::ko_number;
 use crate::count::no_room;
 use crate::count::put_after;
 use board::goban::Board;
-use checking::point::told_of;
-use checking::spot::spot_at;
+use checking::point::told_by;
 use checking::superko::is_undecided;
 use checking::superko::known_answer;
 use game::calls::Answered;
@@ -17,10 +16,12 @@ use game::clock::clock_of;
 use game::clock::game_of;
 use game::judge::judge_with;
 use game::state::Game;
+use hashing::zobrist::table;
 use history::lent::is_recorded;
 use history::lent::note_board;
 use history::packing::record_by;
 use laying::lay::lay;
+use looking::look::Sight;
 use looking::look::look_at;
 use points::answers::ACCEPTED;
 use points::answers::DAMAGED;
@@ -29,22 +30,28 @@ use points::answers::HISTORY_FULL;
 use points::answers::MOVE_LIMIT;
 use points::answers::SUPER_KO;
 use points::coord::Place;
-use points::coord::two_to_1dim;
 use points::sizes::MAX_STONES;
 use points::stones::other;
+ghost use mathlib.Core.List.{List};
 ghost use mathlib.Core.Path.{_≡_};
+ghost use Prim.Native.Nat.{ℕ};
 ghost use lib.ListN.{length};
 ghost use Rattle.rules.specs.Answers.{number};
+ghost use Rattle.rules.specs.Records.{recordOf};
 ghost use Rattle.rules.specs.Calls as rules;
+ghost use Rattle.board.specs.declared.goban.Board.{Board};
+ghost use Rattle.history.specs.Packing.{recordBy};
 ghost use Rattle.game.specs.Clock.{gameOf};
 ghost use Rattle.game.specs.View.{viewOf, TrueState, RoomIn};
 ghost use Rattle.game.specs.Promise.{Called};
-ghost use Rattle.playing.specs.Turn.{firstAnswer, lastAnswer, Tested};
+ghost use Rattle.playing.specs.Turn.{firstAnswer, lastAnswer, Ready, Finished, Shown, FirstTested, Undecided, Settling, Tested};
 ghost use Rattle.playing.specs.After.{Moving, Moved};
 
 // What the tests answer, and of an accepted stone its point, its colour and how many records there are with the present board's.
 pub struct Turn {
     pub answer: u8,
+    // the records decide and were not looked through yet: the rest says nothing
+    pub undecided: bool,
     pub point: usize,
     pub mover: u8,
     pub records: usize,
@@ -76,45 +83,14 @@ fn last_answer(again: bool, accepted: u16, full: bool) -> u8
     ACCEPTED
 }
 
-// All tests, in a state that is true already and has room for its records, and the record of the present board where the stone is accepted. It is laid
-// here only where the records decide, on a copy.
-pub fn tested(board: Board, clock: Clock, history: &mut [u8], row: u8, column: u8) -> Turn
-    requires { ⌜ TrueState (gameOf board clock) × RoomIn (gameOf board clock) (length (now history)) ⌝ }
-    ensures { λ r. ⌜ Tested (gameOf board clock) (now (history .entry)) row column r (now (history .exit)) ⌝ }
+// The tests by the records and the count, and the record of the present board where they let the stone pass. Whether the board that it leaves is
+// recorded is known.
+fn finished(sight: Sight, clock: Clock, history: &mut [u8], again: bool) -> Turn
+    requires { ⌜ Ready sight clock (length (now history)) ⌝ }
+    ensures { λ r. ⌜ ((cols : List ℕ) → recordBy (sight .hash) (sight .colours) ≡ recordOf cols → Finished sight clock cols (now (history .entry)) again r (now (history .exit))) ⌝ }
 {
-    let spot = spot_at(board, row, column);
-    let point = two_to_1dim(board.width, row, column);
-    let sight = look_at(board, point);
-    let near = sight.near;
     let mover = player_of(clock.turn);
-    let told = told_of(
-        spot,
-        near,
-        &sight.colours,
-        board.height,
-        board.width,
-        mover,
-        clock.ko,
-        clock.records,
-        clock.flags,
-    );
-    let first = first_answer(clock.passes, known_answer(told));
-    if first != ACCEPTED {
-        return Turn {
-            answer: first,
-            point: point,
-            mover: mover,
-            records: clock.records,
-        };
-    }
-    let mut again = false;
-    if is_undecided(told) {
-        let laid = lay(board, point, mover, clock.flags);
-        let left = look_at(laid.board, point);
-        let record = record_by(laid.board.hash, &left.colours);
-        again = is_recorded(history, clock.records, &record);
-    }
-    let bytes = record_by(board.hash, &sight.colours);
+    let bytes = record_by(sight.hash, &sight.colours);
     let last = last_answer(
         again,
         clock.accepted,
@@ -123,7 +99,8 @@ pub fn tested(board: Board, clock: Clock, history: &mut [u8], row: u8, column: u
     if last != ACCEPTED {
         return Turn {
             answer: last,
-            point: point,
+            undecided: false,
+            point: sight.point,
             mover: mover,
             records: clock.records,
         };
@@ -131,10 +108,60 @@ pub fn tested(board: Board, clock: Clock, history: &mut [u8], row: u8, column: u
     let records = note_board(history, clock.records, &bytes);
     Turn {
         answer: ACCEPTED,
-        point: point,
+        undecided: false,
+        point: sight.point,
         mover: mover,
         records: records,
     }
+}
+
+// The tests of a stone by what is seen of the board: all of them, for every true state that looks so and has room for its records, unless a capture might
+// bring a recorded board back. It takes no board, which would be copied.
+pub fn tested(sight: Sight, clock: Clock, history: &mut [u8], row: u8, column: u8) -> Turn
+    requires { ⌜ Ready sight clock (length (now history)) ⌝ }
+    ensures { λ r. ⌜ ((b : Board) → Shown b sight clock (length (now (history .entry))) row column → FirstTested (gameOf b clock) (now (history .entry)) row column r (now (history .exit))) ⌝ }
+{
+    let told = told_by(sight, clock, clock.flags, row, column);
+    let first = first_answer(clock.passes, known_answer(told));
+    if first != ACCEPTED {
+        return Turn {
+            answer: first,
+            undecided: false,
+            point: sight.point,
+            mover: clock.turn,
+            records: clock.records,
+        };
+    }
+    if is_undecided(told) {
+        return Turn {
+            answer: ACCEPTED,
+            undecided: true,
+            point: sight.point,
+            mover: clock.turn,
+            records: clock.records,
+        };
+    }
+    finished(sight, clock, history, false)
+}
+
+// The rest of the tests where a capture might bring a recorded board back: the stone is laid on a copy, and the board that it leaves is looked for.
+pub fn settled(board: Board, sight: Sight, clock: Clock, history: &mut [u8]) -> Turn
+    requires { ⌜ Settling board sight clock (length (now history)) ⌝ }
+    ensures { λ r. ⌜ ((row column : ℕ) → Shown board sight clock (length (now (history .entry))) row column → Undecided (gameOf board clock) row column → Tested (gameOf board clock) (now (history .entry)) row column r (now (history .exit))) ⌝ }
+{
+    let numbers = table();
+    let laid = lay(
+        board,
+        &numbers,
+        sight.point,
+        player_of(clock.turn),
+        clock.flags,
+    );
+    // what stands beside a point of it is not asked
+    let left = look_at(laid.board, 0, 0);
+    let record = record_by(left.hash, &left.colours);
+    let again = is_recorded(history, clock.records, &record);
+    finished(sight, clock, history, again)
 }
 
 // The numbers after an accepted stone.
@@ -179,14 +206,19 @@ pub fn stone(game: Game, history: &mut [u8], row: u8, column: u8) -> Answered
         };
     }
     let clock = clock_of(game);
-    let turn = tested(game.board, clock, history, row, column);
+    let sight = look_at(game.board, row, column);
+    let mut turn = tested(sight, clock, history, row, column);
+    if turn.undecided {
+        turn = settled(game.board, sight, clock, history);
+    }
     if turn.answer != ACCEPTED {
         return Answered {
             answer: turn.answer,
             game: game,
         };
     }
-    let laid = lay(game.board, turn.point, turn.mover, game.flags);
+    let numbers = table();
+    let laid = lay(game.board, &numbers, turn.point, turn.mover, game.flags);
     let place = laid.ko;
     let ticked = moved(clock, turn.records, laid.taken, laid.lost, place);
     let after = game_of(laid.board, ticked.clock);

@@ -25,6 +25,7 @@ use Rattle.rules.specs.Laws.Records.{bytesAfter-length, recordsAfter-fits}
 use Rattle.points.specs.declared.coord.Place.{Place}
 use Rattle.points.specs.declared.coord.Place.the-variants.{Off, At}
 use Rattle.points.specs.Place.{placeOf, Within}
+use Rattle.board.specs.declared.goban.Board.{Board}
 use Rattle.board.specs.Board.{coloursOf}
 use Rattle.board.specs.Laws.Board.{area-fits}
 use Rattle.laying.specs.declared.lay.Laid.{Laid}
@@ -32,6 +33,8 @@ use Rattle.laying.specs.Laying.{Laying, LaidOut}
 use Rattle.rules.specs.Laws.Answers.{accepts-zero, refuses-other, then-refused, then-accepted, passes, test-refuses, test-passes, other-refuses}
 use Rattle.history.specs.History.{among}
 use Rattle.history.specs.Laws.History.{among-recorded}
+use Rattle.looking.specs.declared.look.Sight.{Sight}
+use Rattle.looking.specs.Laws.Sight.{sees-packing, sees-record}
 use Rattle.game.specs.declared.state.Game.{Game}
 use Rattle.game.specs.declared.clock.Clock.{Clock}
 use Rattle.game.specs.declared.calls.Ticked.{Ticked}
@@ -45,7 +48,7 @@ use Rattle.checking.specs.Laws.Told.{known-settles, passed-settles}
 use Rattle.checking.specs.Laws.Asking.{told-laying}
 use Rattle.playing.specs.declared.stone.Turn.{Turn}
 use Rattle.playing.specs.Promise.{CalledTrue}
-use Rattle.playing.specs.Turn.{firstAnswer, lastAnswer, Allowed, Granted}
+use Rattle.playing.specs.Turn.{firstAnswer, lastAnswer, Allowed, Granted, Tested, Ready, Finished, Shown}
 use Rattle.playing.specs.After.{Moving, Moved, stoned}
 use Rattle.playing.specs.Laws.Promise.{true-refused, true-accepted}
 use Rattle.playing.specs.Laws.Count.{turn-same, true-few, black-gone, white-gone}
@@ -98,6 +101,11 @@ none-refuses true b c z = let e : _≡_ {A = ℕ} 8 0 = z in absurd (omega (arit
 none-refuses false true c z = let e : _≡_ {A = ℕ} 10 0 = z in absurd (omega (arith, e))
 none-refuses false false true z = let e : _≡_ {A = ℕ} 11 0 = z in absurd (omega (arith, e))
 none-refuses false false false z = (refl, refl, refl)
+
+-- where the last tests let a stone pass, there is room for the record
+pub last-free : (again : Bool) (n : ℕ) (f : Bool) → number (lastAnswer again n f) ≡ 0 → f ≡ false
+unfolding lastAnswer
+last-free again n f z = none-refuses again (eqb n maxStones) f z .2
 
 -- ---- What is known without the records
 
@@ -196,6 +204,42 @@ module _ (g : Game) (bytes : List ℕ) (r c : ℕ) (is : TrueState g) (room : Ro
               more = let most : g .accepted ≤ maxStones = is .game .limited in let apart = eqb-false (g .accepted) maxStones fewer in omega (arith, most, apart);
               free = full′ ∙ roomy;
             }
+
+-- ---- By what is seen of the board
+
+pub shown-ready : (b : Board) (s : Sight) (k : Clock) (n r c : ℕ) → Shown b s k n r c → Ready s k n
+unfolding gameOf RoomIn
+shown-ready b s k n r c is =
+    record {
+      packing = sees-packing b (is .state .board) r c s (is .sees);
+      colours = coloursOf b;
+      its = sees-record b (is .state .board) r c s (is .sees);
+      room = is .room;
+    }
+
+-- what the last tests say is what a stone promises
+module _ (b : Board) (s : Sight) (k : Clock) (bytes : List ℕ) (r c : ℕ) (is : Shown b s k (length bytes) r c)
+    (t : Told) (told : ToldAt (gameOf b k) (k .flags) r c t) (passes′ : firstAnswer (k .passes) (known t) ≡ 0)
+    (again : Bool) (looked : undecided t ≡ true → again ≡ recorded bytes (k .records) (resulting (viewOf (gameOf b k)) (index (b .width) r c)))
+    (skipped : undecided t ≡ false → again ≡ false) (turn : Turn) (bytes′ : List ℕ) (done : Finished s k (coloursOf b) bytes again turn bytes′) where
+  pub finished-tested : Tested (gameOf b k) bytes r c turn bytes′
+  unfolding gameOf
+  finished-tested =
+      let g = gameOf b k in
+      let here = done .point ∙ is .sees .point in
+      record {
+        refused =
+            λ n.
+            subst (λ (after : List ℕ). CalledTrue (stone (viewOf g) bytes r c) g bytes (turn .answer) g after) (sym (done .refused n))
+            (last-refuses g bytes r c (is .state) (is .room) t told _ refl passes′ again looked skipped _ refl _ (done .answered) n);
+        granted = λ z. record {
+          allowed = last-allows g bytes r c (is .state) (is .room) t told _ refl passes′ again looked skipped _ refl _ (done .answered) z;
+          point = here;
+          mover = done .mover;
+          laying = laying g bytes r c (is .state) (is .room) t told _ refl passes′ here (done .mover);
+          noted = done .noted z;
+        };
+      }
 
 -- ---- A stone that a true state accepts
 
