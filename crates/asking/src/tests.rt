@@ -2,11 +2,12 @@
 // laid on another, so where one stands each answers no.
 use checking::point::is_ko_point;
 use checking::spot::Spot;
-use checking::spot::spot_at;
+use checking::spot::spot_of;
 use eyes::eye::is_eye;
 use game::calls::player_of;
 use game::judge::judge_state;
 use game::state::Game;
+use legality::near::Near;
 use legality::near::is_ko;
 use legality::near::is_suicide;
 use legality::near::will_capture as captures;
@@ -14,11 +15,14 @@ use looking::look::look_at;
 use points::answers::ACCEPTED;
 use points::answers::DAMAGED;
 use points::answers::OFF_BOARD;
+use points::sizes::MAX_AREA;
 use queries::goban::TestAnswer;
 ghost use mathlib.Core.Path.{_≡_};
+ghost use lib.ListN.{length};
+ghost use Rattle.rules.specs.Sizes.{maxArea};
 ghost use Rattle.rules.specs.Calls.{offBoard};
 ghost use Rattle.game.specs.View.{viewOf, TrueState};
-ghost use Rattle.asking.specs.Tests.{tested, testedAt};
+ghost use Rattle.asking.specs.Tests.{testedNear, testedAt};
 ghost use Rattle.asking.specs.Promise.{Tested};
 
 // The tests that need no history.
@@ -29,21 +33,25 @@ pub enum Test {
     Eye,
 }
 
-// The test at a point of the board.
-fn holds(game: Game, point: usize, test: Test) -> bool
-    requires { ⌜ TrueState game ⌝ }
-    ensures { λ r. ⌜ r ≡ tested (viewOf game) point test ⌝ }
+// The test at an empty point, by what is seen of a board. The colours are read only where the eye test is asked.
+fn holds(
+    near: Near,
+    colours: &[u8; MAX_AREA],
+    height: u8,
+    width: u8,
+    point: usize,
+    colour: u8,
+    ko: u16,
+    test: Test,
+) -> bool
+    requires { ⌜ length (now colours) ≡ maxArea ⌝ }
+    ensures { λ r. ⌜ r ≡ testedNear near (now (colours .entry)) height width colour ko point test ⌝ }
 {
-    let height = game.board.height;
-    let width = game.board.width;
-    let colour = player_of(game.turn);
-    let sight = look_at(game.board, point);
-    let around = sight.near;
     match test {
-        Test::Capture => captures(around, colour),
-        Test::Suicide => is_suicide(around, colour),
-        Test::Ko => is_ko(around, is_ko_point(game.ko, point)),
-        Test::Eye => is_eye(&sight.colours, height, width, point, colour),
+        Test::Capture => captures(near, colour),
+        Test::Suicide => is_suicide(near, colour),
+        Test::Ko => is_ko(near, is_ko_point(ko, point)),
+        Test::Eye => is_eye(colours, height, width, point, colour),
     }
 }
 
@@ -57,7 +65,8 @@ fn asked(game: Game, row: u8, column: u8, test: Test) -> TestAnswer
             holds: false,
         };
     }
-    let spot = spot_at(game.board, row, column);
+    let sight = look_at(game.board, row, column);
+    let spot = spot_of(&sight.colours, sight.height, sight.width, row, column);
     match spot {
         Spot::Off => TestAnswer {
             answer: OFF_BOARD,
@@ -68,7 +77,17 @@ fn asked(game: Game, row: u8, column: u8, test: Test) -> TestAnswer
             holds: false,
         },
         Spot::Empty(point) => {
-            let yes = holds(game, point, test);
+            let near = sight.near;
+            let yes = holds(
+                near,
+                &sight.colours,
+                sight.height,
+                sight.width,
+                point,
+                player_of(game.turn),
+                game.ko,
+                test,
+            );
             TestAnswer {
                 answer: ACCEPTED,
                 holds: yes,

@@ -1,16 +1,34 @@
--- `asked`: the judge, then the spot, then the test.
+-- `asked`: the judge, then the spot by what is seen of the board, then the test.
+use mathlib.Core.Path.{_≡_, _∙_}
 use borrow.Author.Tests.{not-true, not-false}
 use Rattle.rules.specs.Laws.Lists.{not-both}
+use Rattle.board.specs.Board.{coloursOf}
+use Rattle.looking.specs.Laws.Sight.{sight-long}
 use Rattle.game.specs.View.{TrueState}
+use Rattle.checking.specs.Spot.{spotOf}
 use Rattle.asking.specs.Tests.{testedAt}
-use Rattle.asking.specs.Laws.Tests.{tested-damaged, tested-off, tested-stone, tested-empty}
+use Rattle.asking.specs.Laws.Tests.{tested-damaged, tested-off, tested-stone, tested-empty, spot-seen, near-tested}
 use borrow.Author.Needs.{needs}
 use Rattle.asking.proofs.tests.asked.Statement.{statement}
 use Rattle.asking.proofs.tests.asked.Tie as tie
 
+abbrev looked : tie.After-spot-of → tie.After-look-at
+looked c = c .before .before .before
+
+abbrev begin : tie.After-spot-of → tie.Start
+begin c = looked c .before .before .before
+
 -- the state is a true one
 good : (c : tie.Else1) → TrueState (c .before .before .args .game)
 good c = c .before .judge-state .ensures .0 (not-false _ (c .if1 .left))
+
+-- the spot is that of the board
+found : (c : tie.After-spot-of)
+    → let a = begin c .args in
+    c .spot-of .result ≡ spotOf (a .game .board .height) (a .game .board .width) (coloursOf (a .game .board)) (a .row) (a .column)
+found c =
+    let a = begin c .args in
+    spot-seen (a .game) (a .row) (a .column) (good (looked c .before) .board) _ (looked c .look-at .ensures) _ (c .spot-of .ensures)
 
 judge-state-requires : tie.Need-judge-state-requires
 judge-state-requires c κs = search needs
@@ -18,8 +36,11 @@ judge-state-requires c κs = search needs
 returns : tie.Need-returns
 returns c = tested-damaged (λ is. not-both (c .before .judge-state .ensures .1 is) (not-true _ (c .if1 .taken)))
 
-spot-at-requires : tie.Need-spot-at-requires
-spot-at-requires c κs = good c .board
+look-at-requires : tie.Need-look-at-requires
+look-at-requires c κs = good c .board
+
+spot-of-requires : tie.Need-spot-of-requires
+spot-of-requires c κs = search needs
 
 enum-told : tie.Need-enum-told
 enum-told c = search needs
@@ -30,27 +51,38 @@ enum-told-2 c = search needs
 enum-known-spot : tie.Need-enum-known-spot
 enum-known-spot c = search needs
 
+player-of-requires : tie.Need-player-of-requires
+player-of-requires c κs = search needs
+
 holds-requires : tie.Need-holds-requires
-holds-requires c κs = good (c .before .before .before .before)
+holds-requires c κs =
+    let at = c .before .before .before .before .before .before .before in
+    sight-long (begin at .args .game .board) (good (looked at .before) .board) _ (looked at .look-at .ensures .colours)
 
 returns-2 : tie.Need-returns-2
 unfolding testedAt
 returns-2 c =
-    let found = c .before .before in
-    tested-off (good (found .before)) _ _ _ _ _ (found .spot-at .ensures) (c .enum-told .given .1)
+    let at = c .before .before in
+    tested-off (good (looked at .before)) _ _ _ _ _ (found at) (c .enum-told .given .1)
 
 returns-3 : tie.Need-returns-3
 unfolding testedAt
 returns-3 c =
-    let found = c .before .before in
-    tested-stone (good (found .before)) _ _ _ _ _ (found .spot-at .ensures) (c .enum-told2 .given .1)
+    let at = c .before .before in
+    tested-stone (good (looked at .before)) _ _ _ _ _ (found at) (c .enum-told2 .given .1)
 
 returns-4 : tie.Need-returns-4
 unfolding testedAt
 returns-4 c =
-    let matched = c .before .before in
-    let found = matched .before .before in
-    tested-empty (good (found .before)) _ _ _ _ _ (found .spot-at .ensures) _ (matched .spot .given .1) _ (c .holds .ensures)
+    let mover = c .before in
+    let matched = mover .before .before .before .before .before in
+    let at = matched .before .before in
+    let a = begin at .args in
+    let is = good (looked at .before) in
+    tested-empty is _ _ _ _ _ (found at) _ (matched .spot .given .1) _
+    (c .holds .ensures
+    ∙ near-tested (a .game) (a .row) (a .column) (is .board) _ (looked at .look-at .ensures) _ (at .spot-of .ensures) _ (matched .spot .given .1)
+    _ (mover .player-of .ensures) (a .test))
 
 pub asked-spec : {M : Type 1} → statement M
 asked-spec =
@@ -58,10 +90,12 @@ asked-spec =
     (tie.spec
     judge-state-requires
     returns
-    spot-at-requires
+    look-at-requires
+    spot-of-requires
     enum-told
     enum-told-2
     enum-known-spot
+    player-of-requires
     holds-requires
     returns-2
     returns-3

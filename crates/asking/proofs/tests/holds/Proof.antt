@@ -1,17 +1,18 @@
--- `holds`: each test on what stands near is the rules' test.
+-- `holds`: each test is the one that the definition names.
+use mathlib.Core.Bool.{Bool, not, _&&_}
 use mathlib.Core.Path.{sym, ap, _∙_}
-use Rattle.game.specs.View.{viewOf}
-use Rattle.asking.specs.Tests.{tested}
-use Rattle.checking.specs.Laws.Near.{own-captures, own-suicide, its-ko, own-eye}
+use Rattle.rules.specs.Lists.{any}
+use Rattle.legality.specs.Near.{besides, catchesMore}
+use Rattle.asking.specs.declared.tests.Test.{Test}
+use Rattle.asking.specs.Tests.{testedNear}
 use borrow.Author.Needs.{needs}
 use Rattle.asking.proofs.tests.holds.Statement.{statement}
 use Rattle.asking.proofs.tests.holds.Tie as tie
 
-player-of-requires : tie.Need-player-of-requires
-player-of-requires c κs = search needs
-
-look-at-requires : tie.Need-look-at-requires
-look-at-requires c κs = search needs
+-- what is asked of the point
+abbrev asked : tie.Start → Test → Bool
+asked c =
+    let a = c .args in testedNear (a .near) (a .colours .now) (a .height) (a .width) (a .colour) (a .ko) (a .point)
 
 enum-told : tie.Need-enum-told
 enum-told c = search needs
@@ -41,53 +42,32 @@ is-eye-requires : tie.Need-is-eye-requires
 is-eye-requires c κs = search needs
 
 returns : tie.Need-returns
-unfolding viewOf
 returns c =
-    let looked = c .before .before .before .before in
-    let mover = looked .before in
-    let a = mover .before .args in
-    c .will-capture .ensures
-    ∙ own-captures (a .game) (a .point) _ (looked .look-at .ensures .0) _ (mover .player-of .ensures)
-    ∙ ap (tested (viewOf (a .game)) (a .point)) (sym (c .before .enum-told .given .1))
+    let matched = c .before in
+    c .will-capture .ensures ∙ ap (asked (matched .before .before)) (sym (matched .enum-told .given .1))
 
 returns-2 : tie.Need-returns-2
-unfolding viewOf
 returns-2 c =
-    let looked = c .before .before .before .before in
-    let mover = looked .before in
-    let a = mover .before .args in
-    c .is-suicide .ensures
-    ∙ own-suicide (a .game) (a .point) _ (looked .look-at .ensures .0) _ (mover .player-of .ensures)
-    ∙ ap (tested (viewOf (a .game)) (a .point)) (sym (c .before .enum-told2 .given .1))
+    let matched = c .before in
+    c .is-suicide .ensures ∙ ap (asked (matched .before .before)) (sym (matched .enum-told2 .given .1))
 
 returns-3 : tie.Need-returns-3
-unfolding viewOf
 returns-3 c =
     let matched = c .before .before in
-    let looked = matched .before .before .before in
-    let a = looked .before .before .args in
+    let start = matched .before .before in
     c .is-ko .ensures
-    ∙ its-ko (a .game) (a .point) _ (looked .look-at .ensures .0) _ (c .before .is-ko-point .ensures)
-    ∙ ap (tested (viewOf (a .game)) (a .point)) (sym (matched .enum-told3 .given .1))
+    ∙ ap (λ (k : Bool). k && not (any catchesMore (besides (start .args .near)))) (c .before .is-ko-point .ensures)
+    ∙ ap (asked start) (sym (matched .enum-told3 .given .1))
 
 returns-4 : tie.Need-returns-4
-unfolding viewOf
 returns-4 c =
-    let matched = c .before .before .before in
-    let looked = matched .before .before .before in
-    let mover = looked .before in
-    let start = mover .before in
-    let a = start .args in
-    c .is-eye .ensures
-    ∙ own-eye (a .game) (a .point) (start .pre .board) _ (looked .look-at .ensures .1) _ (mover .player-of .ensures)
-    ∙ ap (tested (viewOf (a .game)) (a .point)) (sym (matched .enum-told4 .given .1))
+    let matched = c .before in
+    c .is-eye .ensures ∙ ap (asked (matched .before .before)) (sym (matched .enum-told4 .given .1))
 
 pub holds-spec : {M : Type 1} → statement M
 holds-spec =
     tie.close
     (tie.spec
-    player-of-requires
-    look-at-requires
     enum-told
     will-capture-requires
     enum-told-2
