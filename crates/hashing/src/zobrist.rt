@@ -760,11 +760,3 @@ pub fn stone_hash(table: &[u64; HASH_ENTRIES], point: usize, colour: u8) -> u64
     }
     table[2 * point + 1]
 }
-
-// The same for one stone alone.
-pub fn index_zobrist(point: usize, colour: u8) -> u64
-    ensures { λ r. ⌜ r ≡ cond (ltb point maxArea) (stoneHash point colour) 0 ⌝ }
-{
-    let numbers = table();
-    stone_hash(&numbers, point, colour)
-}
