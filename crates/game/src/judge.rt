@@ -13,6 +13,8 @@ use points::stones::BLACK;
 use points::stones::WHITE;
 ghost use mathlib.Core.Bool.{true};
 ghost use mathlib.Core.Path.{_≡_};
+ghost use Prim.Native.Nat.{_≤_, _/_};
+ghost use Rattle.rules.specs.Sizes.{recordBytes};
 ghost use Rattle.game.specs.View.{TrueState, RoomIn};
 ghost use Rattle.game.specs.Judge.{Decides, InRange, Summed, Untouched};
 
@@ -98,12 +100,19 @@ pub fn judge_state(game: Game) -> bool
     untouched(put, game.records, game.passes, game.outcome)
 }
 
-// The same, for a call that is lent a history of this many bytes.
+// A history of this many bytes has room for so many records.
+pub fn has_room(records: usize, length: usize) -> bool
+    ensures { λ r. ⌜ Decides r (records ≤ length / recordBytes) ⌝ }
+{
+    records <= length / RECORD_BYTES
+}
+
+// The judge for a call that is lent a history of this many bytes.
 pub fn judge_with(game: Game, length: usize) -> bool
     ensures sound { λ r. ⌜ (r ≡ true → TrueState game × RoomIn game length) ⌝ }
     ensures complete { λ r. ⌜ (TrueState game × RoomIn game length → r ≡ true) ⌝ }
 {
-    if length / RECORD_BYTES < game.records {
+    if !has_room(game.records, length) {
         return false;
     }
     judge_state(game)
