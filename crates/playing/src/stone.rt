@@ -14,7 +14,8 @@ use game::calls::player_of;
 use game::clock::Clock;
 use game::clock::clock_of;
 use game::clock::game_of;
-use game::judge::judge_with;
+use game::judge::has_room;
+use game::judge::judge_state;
 use game::state::Game;
 use hashing::zobrist::table;
 use history::lent::is_recorded;
@@ -199,7 +200,9 @@ pub fn moved(clock: Clock, records: usize, taken: u16, lost: u16, place: Place) 
 pub fn stone(game: Game, history: &mut [u8], row: u8, column: u8) -> Answered
     ensures { λ r. ⌜ Called (TrueState game × RoomIn game (length (now (history .entry)))) (rules.stone (viewOf game) (now (history .entry)) row column) game (now (history .entry)) (r .answer) (r .game) (now (history .exit)) ⌝ }
 {
-    if !judge_with(game, history.len()) {
+    // asked apart, since one function for both would copy the game once more
+    let sound = has_room(game.records, history.len()) && judge_state(game);
+    if !sound {
         return Answered {
             answer: DAMAGED,
             game: game,

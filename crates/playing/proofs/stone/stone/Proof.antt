@@ -26,11 +26,14 @@ use Rattle.playing.proofs.stone.stone.Statement.{statement}
 use Rattle.playing.proofs.stone.stone.Tie as tie
 
 -- the way back from the tests
-abbrev judged : tie.After-clock-of → tie.Else1
+abbrev start : tie.Joined1 → tie.Start
+start c = c .before .before .before
+
+abbrev judged : tie.After-clock-of → tie.Else2
 judged c = c .before
 
 abbrev begin : tie.After-clock-of → tie.Start
-begin c = judged c .before .before .before
+begin c = start (judged c .before)
 
 abbrev read : tie.After-tested → tie.After-look-at
 read c = c .before .before
@@ -38,22 +41,37 @@ read c = c .before .before
 abbrev clock : tie.After-tested → tie.After-clock-of
 clock c = read c .before
 
-abbrev answered : tie.Joined2 → tie.After-tested
+abbrev answered : tie.Joined3 → tie.After-tested
 answered c = c .before .before .before
 
+-- room and judge together are the judge of the state with its history
+judge : (c : tie.Joined1) →
+    let a = start c .args in
+    let is = TrueState (a .game) × RoomIn (a .game) (length (a .history .now)) in (c .if1 .sound ≡ true → is) × (is → c .if1 .sound ≡ true)
+unfolding RoomIn
+judge c =
+    let room = c .before .has-room .ensures in
+    ⊎-elim
+    (λ w. (λ t. (w .1 .ensures .0 (sym (w .2) ∙ t), room .sound (w .0 .taken)), λ both. w .2 ∙ w .1 .ensures .1 (both .0)))
+    (λ w. (λ t. absurd (not-both t (w .1 ∙ w .0 .left)), λ both. absurd (not-both (room .complete (both .1)) (w .0 .left))))
+    (c .if1 .came)
+
 true-state : (c : tie.After-clock-of) → let a = begin c .args in TrueState (a .game) × RoomIn (a .game) (length (a .history .now))
-true-state c = judged c .before .judge-with .ensures .0 (not-false _ (judged c .if1 .left))
+true-state c = judge (judged c .before) .0 (not-false _ (judged c .if2 .left))
 
 -- board and numbers are the game
 whole : (c : tie.After-clock-of) → let g = begin c .args .game in gameOf (g .board) (c .clock-of .result) ≡ g
 whole c = let g = begin c .args .game in game-whole g (g .board) (c .clock-of .result) refl (c .clock-of .ensures)
 
-judge-with-requires : tie.Need-judge-with-requires
-judge-with-requires c κs = search needs
+has-room-requires : tie.Need-has-room-requires
+has-room-requires c κs = search needs
+
+judge-state-requires : tie.Need-judge-state-requires
+judge-state-requires c κs = search needs
 
 returns : tie.Need-returns
 unfolding number
-returns c = called-damaged (λ is. not-both (c .before .judge-with .ensures .1 is) (not-true _ (c .if1 .taken)))
+returns c = called-damaged (λ is. not-both (judge (c .before) .1 is) (not-true _ (c .if2 .taken)))
 
 clock-of-requires : tie.Need-clock-of-requires
 clock-of-requires c κs = search needs
@@ -89,7 +107,7 @@ seen-again c y =
 settled-requires : tie.Need-settled-requires
 settled-requires c κs =
     let t = c .before .before .before .before in
-    let y = c .before .if2 .taken in
+    let y = c .before .if3 .taken in
     let a = begin (clock t) .args in
     record { row = a .row; column = a .column; shown = seen-again t y; waits = first t .waits y }
 
@@ -101,8 +119,8 @@ tested-same {g} {g′} {bytes} {bytes′} {r} {c} {t} {t′} {after} {after′} 
     (subst (λ (x : List ℕ). Tested g′ x r c t after) q (subst (λ (x : Game). Tested x bytes r c t after) p is)))
 
 -- all tests, the records' among them
-tests : (c : tie.Joined2) →
-    let t = answered c in let a = begin (clock t) .args in Tested (a .game) (a .history .now) (a .row) (a .column) (c .if2 .turn) (c .if2 .history)
+tests : (c : tie.Joined3) →
+    let t = answered c in let a = begin (clock t) .args in Tested (a .game) (a .history .now) (a .row) (a .column) (c .if3 .turn) (c .if3 .history)
 tests c =
     let t = answered c in
     let a = begin (clock t) .args in
@@ -111,22 +129,22 @@ tests c =
     let y = w .0 .taken in
     tested-same (whole (clock t)) (first t .lent y) (w .6) (w .5) (w .2 .ensures (a .row) (a .column) (seen-again t y) (first t .waits y)))
     (λ w. tested-same (whole (clock t)) refl (w .2) (w .1) (first t .decided (w .0 .left)))
-    (c .if2 .came)
+    (c .if3 .came)
 
 same-length : tie.Need-same-length
-same-length c = tests (c .before .before) .refused (c .if3 .taken) .long
+same-length c = tests (c .before .before) .refused (c .if4 .taken) .long
 
 returns-2 : tie.Need-returns-2
 returns-2 c =
     let j = c .before .before in
-    called-true (true-state (clock (answered j))) (tests j .refused (c .if3 .taken))
+    called-true (true-state (clock (answered j))) (tests j .refused (c .if4 .taken))
 
-abbrev passed : tie.Else3 → tie.After-tested
+abbrev passed : tie.Else4 → tie.After-tested
 passed c = answered (c .before .before)
 
-granted : (c : tie.Else3) →
-    let j = c .before .before in let a = begin (clock (answered j)) .args in Granted (a .game) (a .history .now) (a .row) (a .column) (j .if2 .turn) (j .if2 .history)
-granted c = tests (c .before .before) .granted (c .if3 .left)
+granted : (c : tie.Else4) →
+    let j = c .before .before in let a = begin (clock (answered j)) .args in Granted (a .game) (a .history .now) (a .row) (a .column) (j .if3 .turn) (j .if3 .history)
+granted c = tests (c .before .before) .granted (c .if4 .left)
 
 table-requires : tie.Need-table-requires
 table-requires c κs = search needs
@@ -158,17 +176,18 @@ returns-3 c =
     let s = clock (passed ok) in
     let a = begin s .args in
     let laid = l .lay .result in
-    let turn = j .if2 .turn in
+    let turn = j .if3 .turn in
     let moved = subst (λ (k : Clock). Moved k (turn .records) (laid .taken) (laid .lost) (laid .ko) (m .moved .result)) (s .clock-of .ensures) (m .moved .ensures) in
     called-true (true-state s)
-    (subst (λ (g : Game). CalledTrue (stone (viewOf (a .game)) (a .history .now) (a .row) (a .column)) (a .game) (a .history .now) 0 g (j .if2 .history)) (sym (c .game-of .ensures))
+    (subst (λ (g : Game). CalledTrue (stone (viewOf (a .game)) (a .history .now) (a .row) (a .column)) (a .game) (a .history .now) 0 g (j .if3 .history)) (sym (c .game-of .ensures))
     (stone-called _ _ _ _ (true-state s .0) _ _ (granted ok) laid (l .lay .ensures) (m .moved .result) moved (true-state s .1)))
 
 pub stone-spec : {M : Type 1} → statement M
 stone-spec =
     tie.close
     (tie.spec
-    judge-with-requires
+    has-room-requires
+    judge-state-requires
     returns
     clock-of-requires
     look-at-requires
