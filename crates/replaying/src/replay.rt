@@ -6,9 +6,12 @@ use game::clock::clock_of;
 use game::clock::game_of;
 use game::judge::judge_with;
 use game::state::Game;
+use hashing::zobrist::table;
 use laying::lay::Laid;
 use laying::lay::lay;
+use looking::look::look_at;
 use playing::stone::moved;
+use playing::stone::settled;
 use playing::stone::tested;
 use points::answers::ACCEPTED;
 use points::answers::DAMAGED;
@@ -51,10 +54,12 @@ fn unlaid(board: Board) -> Laid
 }
 
 // The state is judged once: each accepted entry leaves a true one. The loop holds the board and the numbers apart and gives neither to a function that gives the
-// game back: `lay` reads the board where it put the last one, and one exit makes a game of both.
+// game back: `lay` reads the board where it put the last one, and one exit makes a game of both. A stone is tested by what is seen of the board, which is
+// copied only where the records decide. The table is made once for all stones.
 pub fn replay(game: Game, history: &mut [u8], moves: &[Move]) -> Replayed
     ensures { λ r. ⌜ Replays (TrueState game × RoomIn game (length (now (history .entry)))) (rules.replay (viewOf game) (now (history .entry)) (entriesOf (now (moves .entry)))) game (now (history .entry)) r (now (history .exit)) ⌝ }
 {
+    let numbers = table();
     let mut laid = unlaid(game.board);
     let mut now = Ticked {
         answer: DAMAGED,
@@ -66,10 +71,20 @@ pub fn replay(game: Game, history: &mut [u8], moves: &[Move]) -> Replayed
         while at < moves.len() {
             let entry = moves[at];
             if entry.kind == 0 {
-                let turn = tested(laid.board, now.clock, history, entry.row, entry.column);
+                let sight = look_at(laid.board, entry.row, entry.column);
+                let mut turn = tested(sight, now.clock, history, entry.row, entry.column);
+                if turn.undecided {
+                    turn = settled(laid.board, sight, now.clock, history);
+                }
                 now.answer = turn.answer;
                 if turn.answer == ACCEPTED {
-                    laid = lay(laid.board, turn.point, turn.mover, now.clock.flags);
+                    laid = lay(
+                        laid.board,
+                        &numbers,
+                        turn.point,
+                        turn.mover,
+                        now.clock.flags,
+                    );
                     now = moved(now.clock, turn.records, laid.taken, laid.lost, laid.ko);
                 }
             } else {

@@ -14,6 +14,7 @@ use Rattle.rules.specs.Game as rules
 use Rattle.rules.specs.Calls.{Result, result, stone, pauseAnswer, pass, passGame, resign, resignGame, resume, resumeGame, entryCall}
 use Rattle.rules.specs.Laws.Lists.{decided}
 use Rattle.board.specs.declared.goban.Board.{Board}
+use Rattle.board.specs.True.{TrueBoard}
 use Rattle.laying.specs.declared.lay.Laid.{Laid}
 use Rattle.laying.specs.Laying.{Laying, LaidOut}
 use Rattle.game.specs.declared.state.Game.{Game}
@@ -163,6 +164,10 @@ module _ (c : Clock) (kind : ℕ) where
       }
 
 -- ---- A stone on a board and numbers that are held apart
+
+pub board-true : (b : Board) (k : Clock) → TrueState (gameOf b k) → TrueBoard b
+unfolding gameOf
+board-true b k is = is .board
 
 module _ (b : Board) (k : Clock) (kind : ℕ) (its : kind ≡ 0) (bytes : List ℕ) (row column : ℕ) (t : Turn) (bytes′ : List ℕ) (tested : Tested (gameOf b k) bytes row column t bytes′) where
   pub stone-refused : t .answer ≢ 0 → Enters (gameOf b k) kind bytes row column (t .answer) (gameOf b k) bytes′
