@@ -1,12 +1,12 @@
 // The calls on a game that is changed where it stands, for hosts that hold one: the game is taken out, the call by value answers, and what
-// it gives is stored.
+// it gives is stored. Handicap, stone and replay go over the border's own calls, so that each is called from one place only and compiled into it: less stack.
+use crate::calls::samtrekhu_handicap;
 use crate::calls::samtrekhu_replay;
+use crate::calls::samtrekhu_stone;
 use game::calls::pass;
 use game::calls::resign;
 use game::calls::resume;
 use game::state::Game;
-use playing::handicap::handicap;
-use playing::stone::stone;
 use replaying::replay::Move;
 ghost use mathlib.Core.List.{[]};
 ghost use lib.ListN.{length};
@@ -48,7 +48,7 @@ pub extern "C" fn samtrekhu_resign_in_place(game: &mut Game, player: u8) -> u8
 pub extern "C" fn samtrekhu_handicap_in_place(game: &mut Game, spots: &[u16]) -> u8
     ensures { λ r. ⌜ CalledAlone (rules.handicapped (viewOf (now (game .entry))) [] (spotsOf (now (spots .entry)))) (now (game .entry)) r (now (game .exit)) ⌝ }
 {
-    let answered = handicap(*game, spots);
+    let answered = samtrekhu_handicap(*game, spots);
     *game = answered.game;
     answered.answer
 }
@@ -62,7 +62,7 @@ pub extern "C" fn samtrekhu_stone_in_place(
 ) -> u8
     ensures { λ r. ⌜ Called (TrueState (now (game .entry)) × RoomIn (now (game .entry)) (length (now (history .entry)))) (rules.stone (viewOf (now (game .entry))) (now (history .entry)) row column) (now (game .entry)) (now (history .entry)) r (now (game .exit)) (now (history .exit)) ⌝ }
 {
-    let answered = stone(*game, history, row, column);
+    let answered = samtrekhu_stone(*game, history, row, column);
     *game = answered.game;
     answered.answer
 }
@@ -76,7 +76,6 @@ pub struct ReplayedInPlace {
     pub answer: u8,
 }
 
-// Over the call of the border, so that the replay itself is called from one place only and is compiled into it: less stack.
 #[no_mangle]
 pub extern "C" fn samtrekhu_replay_in_place(
     game: &mut Game,

@@ -41,9 +41,9 @@ use Rattle.game.specs.View.{viewOf}
 use Rattle.game.specs.Promise.{CalledAlone}
 use Rattle.game.proofs.state.Game as G
 use Rattle.game.proofs.state.Game.Laws as G′
-use Rattle.playing.proofs.handicap.handicap as inner
-use Rattle.playing.proofs.handicap.handicap.Symbol as inner-def
-use Rattle.playing.proofs.handicap.handicap.Met as inner-thm
+use Rattle.border.proofs.calls.samtrekhu_handicap as inner
+use Rattle.border.proofs.calls.samtrekhu_handicap.Symbol as inner-def
+use Rattle.border.proofs.calls.samtrekhu_handicap.Met as inner-thm
 use Rattle.replaying.proofs.Values.{GameIs}
 use Rattle.border.proofs.Stores.{with-one, taken, Held, Gives, Exits, stores-with-one}
 use Rattle.border.proofs.in_place.samtrekhu_handicap_in_place as outer
@@ -134,4 +134,4 @@ samtrekhu-handicap-in-place-spec 𝓤 H 𝓜 𝓖 𝓡 =
     entered 𝓤 H (tripleOf 𝓤 H (𝓖 .A) outer.signature (outer.spec 𝓤 H (𝓖 .A) (𝓜 .mem) (𝓡 .run)))
     (tables 𝓤 H 𝓜 𝓡 code.env .C) (tables 𝓤 H 𝓜 𝓡 code.env .Λ) name code.function (code.unfolded 𝓤 H 𝓜 𝓡)
     (outer-meets 𝓤 H (𝓖 .A) (givenOf 𝓤 H 𝓜 𝓖) (𝓜 .mem) (𝓡 .run) (tablesOf 𝓤 H 𝓜 (tables 𝓤 H 𝓜 𝓡 code.env))
-    (cited 𝓤 H (tripleOf 𝓤 H (𝓖 .A) inner.signature (inner.spec 𝓤 H (𝓖 .A) (𝓜 .mem) (𝓡 .run))) 𝓜 𝓡 code.env inner-def.name inner-def.routine code.calls-playing·handicap·handicap (inner-thm.met 𝓤 H 𝓜 𝓖 𝓡)))
+    (cited 𝓤 H (tripleOf 𝓤 H (𝓖 .A) inner.signature (inner.spec 𝓤 H (𝓖 .A) (𝓜 .mem) (𝓡 .run))) 𝓜 𝓡 code.env inner-def.name inner-def.routine code.calls-border·calls·samtrekhu-handicap (inner-thm.met 𝓤 H 𝓜 𝓖 𝓡)))

@@ -51,9 +51,9 @@ use Rattle.game.proofs.state.Game as G
 use Rattle.game.proofs.state.Game.Laws as G′
 use Rattle.game.proofs.calls.Answered as N
 use Rattle.game.proofs.calls.Answered.Laws as N′
-use Rattle.playing.proofs.stone.stone as inner
-use Rattle.playing.proofs.stone.stone.Symbol as inner-def
-use Rattle.playing.proofs.stone.stone.Met as inner-thm
+use Rattle.border.proofs.calls.samtrekhu_stone as inner
+use Rattle.border.proofs.calls.samtrekhu_stone.Symbol as inner-def
+use Rattle.border.proofs.calls.samtrekhu_stone.Met as inner-thm
 use Rattle.replaying.proofs.Values.{GameIs, game-typed}
 use Rattle.border.proofs.Answer.{apart, answered-typed}
 use Rattle.border.proofs.Stores.{τ₁, taken, Held}
@@ -222,4 +222,4 @@ samtrekhu-stone-in-place-spec 𝓤 H 𝓜 𝓖 𝓡 =
     entered 𝓤 H (tripleOf 𝓤 H (𝓖 .A) outer.signature (outer.spec 𝓤 H (𝓖 .A) (𝓜 .mem) (𝓡 .run)))
     (tables 𝓤 H 𝓜 𝓡 code.env .C) (tables 𝓤 H 𝓜 𝓡 code.env .Λ) name code.function (code.unfolded 𝓤 H 𝓜 𝓡)
     (outer-meets 𝓤 H (𝓖 .A) (givenOf 𝓤 H 𝓜 𝓖) (𝓜 .mem) (𝓡 .run) (tablesOf 𝓤 H 𝓜 (tables 𝓤 H 𝓜 𝓡 code.env))
-    (cited 𝓤 H (Inner 𝓤 H (𝓖 .A) (𝓜 .mem) (𝓡 .run)) 𝓜 𝓡 code.env inner-def.name inner-def.routine code.calls-playing·stone·stone (inner-thm.met 𝓤 H 𝓜 𝓖 𝓡)))
+    (cited 𝓤 H (Inner 𝓤 H (𝓖 .A) (𝓜 .mem) (𝓡 .run)) 𝓜 𝓡 code.env inner-def.name inner-def.routine code.calls-border·calls·samtrekhu-stone (inner-thm.met 𝓤 H 𝓜 𝓖 𝓡)))
