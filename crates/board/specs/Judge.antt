@@ -6,11 +6,12 @@ use mathlib.Core.List.{List}
 use Prim.Native.Nat.{ℕ, _+_, _≤_, _<_}
 use lib.Dec.{eqb, ltb, leb}
 use lib.ListN.{length}
-use Rattle.rules.specs.Sizes.{maxSide, maxArea, slots, hashEntries}
+use Rattle.rules.specs.Sizes.{maxArea, slots, hashEntries}
 use Rattle.rules.specs.Lists.{all, count, below, same, tabulate}
 use Rattle.rules.specs.Points.{area}
 use Rattle.rules.specs.Colours.{black, white}
 use Rattle.rules.specs.Hash.{entry}
+use Rattle.rules.specs.Calls.{sideOk}
 use Rattle.chains.specs.declared.group.Chain.{Chain}
 use Rattle.chains.specs.Group.{used}
 use Rattle.sets.specs.Liberties.{setOf, number}
@@ -18,10 +19,6 @@ use Rattle.owning.specs.Owners.{ownerIn, ring, placed, rowApart, columnApart, R
 use Rattle.flooding.specs.Flood.{found, shore, hashOf}
 use Rattle.board.specs.declared.goban.Board.{Board}
 use Rattle.board.specs.Board.{owner, chainIn, colourAt}
-
--- the side of a board
-unfoldable pub sideGood : ℕ → Bool
-sideGood n = ltb 0 n && not (ltb maxSide n)
 
 unfoldable pub player : ℕ → Bool
 player c = eqb c black || eqb c white
@@ -69,7 +66,7 @@ module _ (b : Board) where
 
 unfoldable pub judged : Board → Bool
 judged b =
-    sideGood (b .height) && (sideGood (b .width)
+    sideOk (b .height) && (sideOk (b .width)
     && (all (placed (b .height) (b .width) (owner b)) (below maxArea)
     && (all (λ s. slotGood (b .height) (b .width) (owner b) (b .next) s (chainIn b s)) (below slots)
     && (all (λ p. leb slots (noted b slots p)) (below (area (b .height) (b .width)))

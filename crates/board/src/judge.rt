@@ -10,8 +10,8 @@ use owning::owners::all_placed;
 use owning::owners::columns_apart;
 use owning::owners::rows_apart;
 use points::sizes::MAX_AREA;
-use points::sizes::MAX_SIDE;
 use points::sizes::SLOTS;
+use points::sizes::is_side;
 use points::stones::BLACK;
 use points::stones::WHITE;
 ghost use Prim.Native.Nat.{_<_, _^_};
@@ -22,7 +22,6 @@ ghost use Rattle.rules.specs.Colours.{black, white};
 ghost use Rattle.rules.specs.Game.{stones};
 ghost use Rattle.board.specs.Board.{coloursOf};
 ghost use Rattle.board.specs.True.{TrueBoard};
-ghost use Rattle.board.specs.Judge.{sideGood};
 
 // What the judge found: whether the board is true, and the stones of each colour on a true board.
 pub struct Verdict {
@@ -37,12 +36,6 @@ const REFUSED: Verdict = Verdict {
     black: 0,
     white: 0,
 };
-
-fn side_good(side: u8) -> bool
-    ensures { λ r. ⌜ r ≡ sideGood side ⌝ }
-{
-    0 < side && side <= (MAX_SIDE as u8)
-}
 
 // The stones of this colour in one chain.
 fn stones_in(chain: Chain, colour: u8) -> u32
@@ -64,10 +57,10 @@ pub fn judged(board: Board) -> Verdict
 {
     let height = board.height;
     let width = board.width;
-    if !side_good(height) {
+    if !is_side(height) {
         return REFUSED;
     }
-    if !side_good(width) {
+    if !is_side(width) {
         return REFUSED;
     }
     if !all_placed(&board.owners, height, width) {

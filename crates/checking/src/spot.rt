@@ -1,9 +1,9 @@
 // Where a stone would go: a row and a column, looked up among the colours that are seen of a board.
-use eyes::eye::colour_at;
 use points::coord::is_coord_valid;
 use points::coord::two_to_1dim;
 use points::sizes::MAX_AREA;
 use points::stones::EMPTY;
+use points::stones::colour_at;
 ghost use mathlib.Core.Path.{_≡_};
 ghost use lib.ListN.{length};
 ghost use Rattle.rules.specs.Sizes.{maxArea};

@@ -5,6 +5,7 @@ use points::coord::corner;
 use points::coord::neighbours;
 use points::sizes::MAX_AREA;
 use points::stones::EMPTY;
+use points::stones::colour_at;
 use points::stones::other;
 ghost use mathlib.Core.Bool.{cond, _||_};
 ghost use mathlib.Core.Path.{_≡_};
@@ -24,17 +25,6 @@ pub enum Said {
     Eye,
     NoEye,
     Next,
-}
-
-// The colour of a point; beyond the largest board nothing stands.
-pub fn colour_at(colours: &[u8; MAX_AREA], point: usize) -> u8
-    requires { ⌜ length (now colours) ≡ maxArea ⌝ }
-    ensures { λ r. ⌜ r ≡ at (now (colours .entry)) point ⌝ }
-{
-    if MAX_AREA <= point {
-        return EMPTY;
-    }
-    colours[point]
 }
 
 // A point of the list as an index.

@@ -13,7 +13,7 @@ use points::answers::BAD_SIZE;
 use points::answers::DAMAGED;
 use points::answers::GAME_PAUSED;
 use points::sizes::MAX_FLAGS;
-use points::sizes::MAX_SIDE;
+use points::sizes::is_side;
 use points::stones::BLACK;
 use points::stones::EMPTY;
 use points::stones::WHITE;
@@ -41,12 +41,6 @@ pub fn player_of(byte: u8) -> u8
     ensures { λ r. ⌜ r ≡ turnOf byte ⌝ }
 {
     if byte == WHITE { WHITE } else { BLACK }
-}
-
-fn side_ok(side: u8) -> bool
-    ensures { λ r. ⌜ r ≡ rules.sideOk side ⌝ }
-{
-    0 < side && side <= (MAX_SIDE as u8)
 }
 
 // A game in which nothing has happened yet.
@@ -85,10 +79,10 @@ fn refused_new(answer: u8) -> Answered
 pub fn new_game(height: u8, width: u8, flags: u8) -> Answered
     ensures { λ r. ⌜ Made height width flags (r .answer) (r .game) ⌝ }
 {
-    if !side_ok(height) {
+    if !is_side(height) {
         return refused_new(BAD_SIZE);
     }
-    if !side_ok(width) {
+    if !is_side(width) {
         return refused_new(BAD_SIZE);
     }
     if MAX_FLAGS < flags {

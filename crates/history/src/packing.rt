@@ -3,26 +3,14 @@ use points::sizes::COLOUR_BYTES;
 use points::sizes::HASH_BYTES;
 use points::sizes::MAX_AREA;
 use points::sizes::RECORD_BYTES;
-use points::stones::EMPTY;
+use points::stones::colour_at;
 ghost use mathlib.Core.Path.{_≡_};
 ghost use mathlib.Core.List.{_++_};
 ghost use Prim.Native.Nat.{_+_, _*_, _<_};
 ghost use lib.ListN.{length, take, drop};
-ghost use Rattle.rules.specs.Sizes.{hashBytes, colourBytes, recordBytes, maxArea};
-ghost use Rattle.rules.specs.Colours.{at};
+ghost use Rattle.rules.specs.Sizes.{hashBytes, colourBytes, recordBytes};
 ghost use Rattle.rules.specs.Records.{lowBytes};
 ghost use Rattle.history.specs.Packing.{colourPart, recordBy, Packing};
-
-// The colour of a point: beyond the largest board nothing stands.
-fn colour_at(colours: &[u8; MAX_AREA], point: usize) -> u8
-    requires { ⌜ length (now colours) ≡ maxArea ⌝ }
-    ensures { λ r. ⌜ r ≡ at (now (colours .entry)) point ⌝ }
-{
-    if point < MAX_AREA {
-        return colours[point];
-    }
-    EMPTY
-}
 
 // Four colours in one byte, two bits each, the first lowest.
 fn packed(first: u8, second: u8, third: u8, fourth: u8) -> u8

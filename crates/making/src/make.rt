@@ -8,7 +8,7 @@ use points::answers::BAD_COLOUR;
 use points::answers::BAD_LENGTH;
 use points::answers::BAD_SIZE;
 use points::coord::area;
-use points::sizes::MAX_SIDE;
+use points::sizes::is_side;
 use points::stones::WHITE;
 ghost use mathlib.Core.Path.{_≡_};
 ghost use mathlib.Core.Bool.{_&&_};
@@ -18,12 +18,6 @@ ghost use Rattle.rules.specs.Colours.{white};
 ghost use Rattle.rules.specs.Calls.{sideOk};
 ghost use Rattle.board.specs.Board.{newBoard};
 ghost use Rattle.making.specs.Making.{NewBoard, FromColours};
-
-fn is_side(n: u8) -> bool
-    ensures { λ r. ⌜ r ≡ sideOk n ⌝ }
-{
-    0 < n && n <= (MAX_SIDE as u8)
-}
 
 fn is_size(height: u8, width: u8) -> bool
     ensures { λ r. ⌜ r ≡ sideOk height && sideOk width ⌝ }

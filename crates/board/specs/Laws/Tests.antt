@@ -10,6 +10,7 @@ use borrow.Author.Tests.{eqb-true, eq-eqb, ltb-true, ltb-false, lt-ltb, leb-true
 use Rattle.rules.specs.Sizes.{maxSide, maxArea, slots}
 use Rattle.rules.specs.Lists.{all, count, below, same}
 use Rattle.rules.specs.Points.{area, column}
+use Rattle.rules.specs.Calls.{sideOk}
 use Rattle.rules.specs.Colours.{black, white}
 use Rattle.rules.specs.Game.{Player}
 use Rattle.rules.specs.Laws.Lists.{and-left, and-right, and-both, or-cases, or-left, or-right, not-yes, not-both, decided, equal-or-not}
@@ -22,7 +23,7 @@ use Rattle.board.specs.declared.goban.Board.{Board}
 use Rattle.board.specs.Board.{owner, chainIn}
 use Rattle.owning.specs.Owners.{placed, onRing, ring, apart, rowApart, columnApart}
 use Rattle.flooding.specs.Flood.{found, shore, hashOf}
-use Rattle.board.specs.Judge.{sideGood, player, counted, libertiesGood, chainGood, slotGood, noted, judged}
+use Rattle.board.specs.Judge.{player, counted, libertiesGood, chainGood, slotGood, noted, judged}
 
 -- ---- Tests of any kind
 
@@ -60,9 +61,9 @@ all-below-says f n says = (
 abbrev pub Side : ℕ → Type 0
 Side n = (0 < n) × ¬ (maxSide < n)
 
-pub side-says : (n : ℕ) → sideGood n ≡ true ↔ Side n
-unfolding sideGood
-side-says n = and-says (ltb-says 0 n) (not-says (ltb-says maxSide n))
+pub side-says : (n : ℕ) → sideOk n ≡ true ↔ Side n
+unfolding sideOk
+side-says n = and-says (ltb-says 0 n) (λ e l. omega (arith, leb-true n maxSide e), λ no. le-leb n maxSide (omega (arith, no)))
 
 pub player-says : (c : ℕ) → player c ≡ true ↔ Player c
 unfolding player Player

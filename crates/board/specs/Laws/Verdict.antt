@@ -1,7 +1,7 @@
 -- Laws of the whole judgement: what the notes say after some slots, that each test that fails is a no, and that when all but the hash are
 -- passed the hash decides.
 use mathlib.Core.Path.{_≡_, sym, ap, _∙_, fun-ext}
-use mathlib.Core.Bool.{Bool, true, false, cond, not, _&&_}
+use mathlib.Core.Bool.{Bool, true, false, cond, _&&_}
 use mathlib.Core.List.{List}
 use mathlib.Core.Logic.{_≢_, ⊎-elim}
 use Prim.Native.Nat.{ℕ, _+_, _-_, _≤_, _<_}
@@ -11,10 +11,11 @@ use lib.Dec.{eqb, ltb, leb}
 use lib.ListN.{length, replicate, length-replicate}
 use lib.Seq.{ext-getD}
 use borrow.Author.Count.{below-none, below-more}
-use borrow.Author.Tests.{ltb-true, ltb-false, lt-ltb, le-ltb, not-true, ne-eqb}
+use borrow.Author.Tests.{leb-true, ltb-true, ltb-false, lt-ltb, le-ltb, ne-eqb}
 use Rattle.rules.specs.Sizes.{maxSide, maxArea, slots, hashEntries}
 use Rattle.rules.specs.Lists.{all, below, tabulate}
 use Rattle.rules.specs.Points.{area}
+use Rattle.rules.specs.Calls.{sideOk}
 use Rattle.rules.specs.Colours.{empty}
 use Rattle.rules.specs.Hash.{entry, hash}
 use Rattle.rules.specs.Laws.Lists.{and-left, and-right, all-each, mem-below, not-yes, decided, equal-or-not, getD-within, length-tabulate, getD-tabulate-zero, getD-replicate-same}
@@ -26,7 +27,7 @@ use Rattle.board.specs.Board.{owner, chainIn, colourAt}
 use Rattle.board.specs.True.{Shaped}
 use Rattle.owning.specs.Owners.{ownerIn, placed, rowApart, columnApart, RowStarts}
 use Rattle.flooding.specs.Flood.{found, hashOf, Passed}
-use Rattle.board.specs.Judge.{sideGood, chainGood, slotGood, foundBelow, noted, judged, Lent}
+use Rattle.board.specs.Judge.{chainGood, slotGood, foundBelow, noted, judged, Lent}
 use Rattle.owning.specs.Laws.Lists.{all-below, all-fails-below, and-fails, then-fails}
 use Rattle.board.specs.Laws.NewBoard.{hash-none}
 use Rattle.flooding.specs.Laws.Found.{found-not, found-same}
@@ -35,15 +36,15 @@ use Rattle.board.specs.Laws.Tests.{used-says, placed-says, slot-says}
 
 -- ---- Sizes
 
-side-low : (n : ℕ) → sideGood n ≡ true → n ≤ maxSide
-unfolding sideGood
-side-low n e = ltb-false maxSide n (not-true (ltb maxSide n) (and-right (ltb 0 n) (not (ltb maxSide n)) e))
+side-low : (n : ℕ) → sideOk n ≡ true → n ≤ maxSide
+unfolding sideOk
+side-low n e = leb-true n maxSide (and-right (ltb 0 n) (leb n maxSide) e)
 
-pub side-some : (n : ℕ) → sideGood n ≡ true → 0 < n
-unfolding sideGood
-side-some n e = ltb-true 0 n (and-left (ltb 0 n) (not (ltb maxSide n)) e)
+pub side-some : (n : ℕ) → sideOk n ≡ true → 0 < n
+unfolding sideOk
+side-some n e = ltb-true 0 n (and-left (ltb 0 n) (leb n maxSide) e)
 
-pub sides-fit : (h w : ℕ) → sideGood h ≡ true → sideGood w ≡ true → area h w ≤ maxArea
+pub sides-fit : (h w : ℕ) → sideOk h ≡ true → sideOk w ≡ true → area h w ≤ maxArea
 unfolding area
 sides-fit h w tall wide = mul-le-mul (side-low h tall) (side-low w wide)
 
@@ -270,43 +271,43 @@ module _ (b : Board) where
   abbrev allPlaced : Bool
   allPlaced = all (placed (b .height) (b .width) (owner b)) (below maxArea)
 
-  pub no-height : sideGood (b .height) ≡ false → judged b ≡ false
+  pub no-height : sideOk (b .height) ≡ false → judged b ≡ false
   unfolding judged
   no-height e = and-fails _ e
 
-  pub no-width : sideGood (b .width) ≡ false → judged b ≡ false
+  pub no-width : sideOk (b .width) ≡ false → judged b ≡ false
   unfolding judged
-  no-width e = then-fails (sideGood (b .height)) (and-fails _ e)
+  no-width e = then-fails (sideOk (b .height)) (and-fails _ e)
 
   pub not-placed : allPlaced ≡ false → judged b ≡ false
   unfolding judged
-  not-placed e = then-fails (sideGood (b .height)) (then-fails (sideGood (b .width)) (and-fails _ e))
+  not-placed e = then-fails (sideOk (b .height)) (then-fails (sideOk (b .width)) (and-fails _ e))
 
   pub bad-slot : (s : ℕ) → s < slots → slotGood (b .height) (b .width) (owner b) (b .next) s (chainIn b s) ≡ false → judged b ≡ false
   unfolding judged
   bad-slot s l e =
-      then-fails (sideGood (b .height)) (then-fails (sideGood (b .width)) (then-fails allPlaced
+      then-fails (sideOk (b .height)) (then-fails (sideOk (b .width)) (then-fails allPlaced
       (and-fails _ (all-fails-below (λ s. slotGood (b .height) (b .width) (owner b) (b .next) s (chainIn b s)) slots s l e))))
 
   pub not-seen : seenGood (noted b slots) ≡ false → judged b ≡ false
   unfolding judged
-  not-seen e = then-fails (sideGood (b .height)) (then-fails (sideGood (b .width)) (then-fails allPlaced (then-fails slotsGood (and-fails _ e))))
+  not-seen e = then-fails (sideOk (b .height)) (then-fails (sideOk (b .width)) (then-fails allPlaced (then-fails slotsGood (and-fails _ e))))
 
   pub not-rows : rowsGood (noted b slots) ≡ false → judged b ≡ false
   unfolding judged
   not-rows e =
-      then-fails (sideGood (b .height)) (then-fails (sideGood (b .width)) (then-fails allPlaced (then-fails slotsGood
+      then-fails (sideOk (b .height)) (then-fails (sideOk (b .width)) (then-fails allPlaced (then-fails slotsGood
       (then-fails (seenGood (noted b slots)) (and-fails _ e)))))
 
   pub not-columns : columnsGood (noted b slots) ≡ false → judged b ≡ false
   unfolding judged
   not-columns e =
-      then-fails (sideGood (b .height)) (then-fails (sideGood (b .width)) (then-fails allPlaced (then-fails slotsGood
+      then-fails (sideOk (b .height)) (then-fails (sideOk (b .width)) (then-fails allPlaced (then-fails slotsGood
       (then-fails (seenGood (noted b slots)) (then-fails (rowsGood (noted b slots)) (and-fails _ e))))))
 
   pub hash-decides :
-      sideGood (b .height) ≡ true
-      → sideGood (b .width) ≡ true
+      sideOk (b .height) ≡ true
+      → sideOk (b .width) ≡ true
       → allPlaced ≡ true
       → ((s : ℕ) → s < slots → slotGood (b .height) (b .width) (owner b) (b .next) s (chainIn b s) ≡ true)
       → seenGood (noted b slots) ≡ true

@@ -12,6 +12,7 @@ use borrow.Author.Tests.{not-true, not-false, eq-eqb, ne-eqb}
 use Rattle.rules.specs.Sizes.{maxArea, slots}
 use Rattle.rules.specs.Lists.{all, below}
 use Rattle.rules.specs.Points.{area}
+use Rattle.rules.specs.Calls.{sideOk}
 use Rattle.rules.specs.Colours.{black, white}
 use Rattle.rules.specs.Game.{Player, stones}
 use Rattle.rules.specs.Laws.Lists.{decided, getD-default}
@@ -24,7 +25,7 @@ use Rattle.board.specs.Board.{owner, chainIn, coloursOf}
 use Rattle.board.specs.True.{Shaped, TrueBoard}
 use Rattle.owning.specs.Owners.{ownerIn, placed}
 use Rattle.flooding.specs.Flood.{hashOf}
-use Rattle.board.specs.Judge.{sideGood, slotGood, noted, judged}
+use Rattle.board.specs.Judge.{slotGood, noted, judged}
 use Rattle.board.specs.Laws.Judge.{judged-true}
 use Rattle.board.specs.Laws.Stones.{stonesBelow, stonesBelow-none, stonesBelow-step, stonesBelow-all}
 use Rattle.board.specs.Laws.Verdict.{side-some, sides-fit, sides-some, sides-wide, Judging, judging-begin, judging-chain, judging-lent, judging-free, judging-used, notes-all}
@@ -103,11 +104,11 @@ Kept b v =
 refused : (c : tie.Start Inv-loop μ-loop) → judged (c .args .t1) ≡ false → Kept (c .args .t1) (record { good = false; black = 0; white = 0 })
 refused c e = let (sound, complete) = judged-true (c .args .t1) (shape c) in (λ t. sound (e ∙ t), (λ is. sym e ∙ complete is, (refl, refl)))
 
-tall : (c : tie.Else2 Inv-loop μ-loop) → sideGood (c .before .before .before .before .args .t1 .height) ≡ true
-tall c = sym (c .before .before .before .side-good .ensures) ∙ not-false _ (c .before .before .if1 .left)
+tall : (c : tie.Else2 Inv-loop μ-loop) → sideOk (c .before .before .before .before .args .t1 .height) ≡ true
+tall c = sym (c .before .before .before .is-side .ensures) ∙ not-false _ (c .before .before .if1 .left)
 
-wide : (c : tie.Else2 Inv-loop μ-loop) → sideGood (c .before .before .before .before .args .t1 .width) ≡ true
-wide c = sym (c .before .side-good2 .ensures) ∙ not-false _ (c .if2 .left)
+wide : (c : tie.Else2 Inv-loop μ-loop) → sideOk (c .before .before .before .before .args .t1 .width) ≡ true
+wide c = sym (c .before .is-side2 .ensures) ∙ not-false _ (c .if2 .left)
 
 fits : (c : tie.Else2 Inv-loop μ-loop) → let b = c .before .before .before .before .args .t1 in area (b .height) (b .width) ≤ maxArea
 fits c = sides-fit _ _ (tall c) (wide c)
@@ -151,17 +152,17 @@ tested c =
 all-noted : (c : tie.After-loop Inv-loop μ-loop) → ownerIn (c .before .loop .notes) ≡ noted (board (before (c .before))) slots
 all-noted c = let e = before (c .before) in notes-all (board e) (shape (begin e)) (on e) (c .before .loop .inv .0) (c .loop-test .left)
 
-side-good-requires : tie.Need-side-good-requires Inv-loop μ-loop
-side-good-requires c κs = search needs
+is-side-requires : tie.Need-is-side-requires Inv-loop μ-loop
+is-side-requires c κs = search needs
 
 returns : tie.Need-returns Inv-loop μ-loop
-returns c = refused (c .before .before) (no-height _ (sym (c .before .side-good .ensures) ∙ not-true _ (c .if1 .taken)))
+returns c = refused (c .before .before) (no-height _ (sym (c .before .is-side .ensures) ∙ not-true _ (c .if1 .taken)))
 
-side-good-requires-2 : tie.Need-side-good-requires-2 Inv-loop μ-loop
-side-good-requires-2 c κs = search needs
+is-side-requires-2 : tie.Need-is-side-requires-2 Inv-loop μ-loop
+is-side-requires-2 c κs = search needs
 
 returns-2 : tie.Need-returns-2 Inv-loop μ-loop
-returns-2 c = refused (c .before .before .before .before) (no-width _ (sym (c .before .side-good2 .ensures) ∙ not-true _ (c .if2 .taken)))
+returns-2 c = refused (c .before .before .before .before) (no-width _ (sym (c .before .is-side2 .ensures) ∙ not-true _ (c .if2 .taken)))
 
 all-placed-requires : tie.Need-all-placed-requires Inv-loop μ-loop
 all-placed-requires c κs = let e = c .before .before in (shape (e .before .before .before .before) .owners, fits e)
@@ -331,9 +332,9 @@ judged-spec =
     (tie.spec
     Inv-loop
     μ-loop
-    side-good-requires
+    is-side-requires
     returns
-    side-good-requires-2
+    is-side-requires-2
     returns-2
     all-placed-requires
     returns-3

@@ -10,13 +10,13 @@ use Rattle.game.proofs.calls.new_game.Statement.{statement}
 use Rattle.game.proofs.calls.new_game.Tie as tie
 
 tall : (c : tie.Else1) → sideOk (c .before .before .args .height) ≡ true
-tall c = sym (c .before .side-ok .ensures) ∙ not-false _ (c .if1 .left)
+tall c = sym (c .before .is-side .ensures) ∙ not-false _ (c .if1 .left)
 
 wide : (c : tie.Else2) → sideOk (c .before .before .before .before .args .width) ≡ true
-wide c = sym (c .before .side-ok2 .ensures) ∙ not-false _ (c .if2 .left)
+wide c = sym (c .before .is-side2 .ensures) ∙ not-false _ (c .if2 .left)
 
-side-ok-requires : tie.Need-side-ok-requires
-side-ok-requires c κs = search needs
+is-side-requires : tie.Need-is-side-requires
+is-side-requires c κs = search needs
 
 refused-new-requires : tie.Need-refused-new-requires
 refused-new-requires c κs = search needs
@@ -24,11 +24,11 @@ refused-new-requires c κs = search needs
 returns : tie.Need-returns
 unfolding number
 returns c =
-    made-low _ _ _ (sym (c .before .before .side-ok .ensures) ∙ not-true _ (c .before .if1 .taken)) (c .refused-new .ensures .0)
+    made-low _ _ _ (sym (c .before .before .is-side .ensures) ∙ not-true _ (c .before .if1 .taken)) (c .refused-new .ensures .0)
     (c .refused-new .ensures .1)
 
-side-ok-requires-2 : tie.Need-side-ok-requires-2
-side-ok-requires-2 c κs = search needs
+is-side-requires-2 : tie.Need-is-side-requires-2
+is-side-requires-2 c κs = search needs
 
 refused-new-requires-2 : tie.Need-refused-new-requires-2
 refused-new-requires-2 c κs = search needs
@@ -36,7 +36,7 @@ refused-new-requires-2 c κs = search needs
 returns-2 : tie.Need-returns-2
 unfolding number
 returns-2 c =
-    made-narrow _ _ _ (tall (c .before .before .before)) (sym (c .before .before .side-ok2 .ensures) ∙ not-true _ (c .before .if2 .taken))
+    made-narrow _ _ _ (tall (c .before .before .before)) (sym (c .before .before .is-side2 .ensures) ∙ not-true _ (c .before .if2 .taken))
     (c .refused-new2 .ensures .0) (c .refused-new2 .ensures .1)
 
 refused-new-requires-3 : tie.Need-refused-new-requires-3
@@ -58,10 +58,10 @@ pub new-game-spec : {M : Type 1} → statement M
 new-game-spec =
     tie.close
     (tie.spec
-    side-ok-requires
+    is-side-requires
     refused-new-requires
     returns
-    side-ok-requires-2
+    is-side-requires-2
     refused-new-requires-2
     returns-2
     refused-new-requires-3

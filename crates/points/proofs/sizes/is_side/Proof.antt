@@ -1,9 +1,9 @@
--- `making::make::is_side`: the code and the definition make the same tests.
+-- `points::sizes::is_side`: the code and the definition make the same tests.
 use borrow.Author.Needs.{needs}
 use borrow.Author.Tests.{lt-ltb, le-ltb}
 use Rattle.rules.specs.Calls.{sideOk}
-use Rattle.making.proofs.make.is_side.Statement.{statement}
-use Rattle.making.proofs.make.is_side.Tie as tie
+use Rattle.points.proofs.sizes.is_side.Statement.{statement}
+use Rattle.points.proofs.sizes.is_side.Tie as tie
 
 cast-result : tie.Need-cast-result
 cast-result c = search needs

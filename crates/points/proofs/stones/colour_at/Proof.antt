@@ -1,14 +1,14 @@
--- `eyes::eye::colour_at`: beyond the array nothing stands.
+-- `points::stones::colour_at`: beyond the array nothing stands.
 use mathlib.Core.Path.{refl, sym}
 use native.Mathlib.Omega.{arith}
 use Rattle.rules.specs.Colours.{at}
 use Rattle.rules.specs.Laws.Colours.{at-beyond}
 use borrow.Author.Needs.{needs}
-use Rattle.eyes.proofs.eye.colour_at.Statement.{statement}
-use Rattle.eyes.proofs.eye.colour_at.Tie as tie
+use Rattle.points.proofs.stones.colour_at.Statement.{statement}
+use Rattle.points.proofs.stones.colour_at.Tie as tie
 
 returns : tie.Need-returns
-returns c = sym (at-beyond (c .before .args .colours .now) (c .before .args .point) (omega arith))
+returns c = sym (at-beyond (c .before .args .shown .now) (c .before .args .point) (omega arith))
 
 element-copy-out-result : tie.Need-element-copy-out-result
 element-copy-out-result c = search needs
