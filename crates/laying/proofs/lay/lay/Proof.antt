@@ -1,9 +1,8 @@
 -- `laying::lay::lay`: the search stands at a slot such that the first free one is not before it, and ends, since one is free on a true
 -- board. Then the turns over the points beside: the liberties lost so far, what is joined so far, what is lifted so far. The measures
 -- are what is left.
-use mathlib.Core.Bool.{Bool, true, false, cond, not, _&&_}
+use mathlib.Core.Bool.{Bool, true, cond, not, _&&_}
 use mathlib.Core.Path.{_≡_, refl, sym, ap, _∙_, subst}
-use mathlib.Core.Option.{some, none}
 use mathlib.Core.List.{List, []}
 use Prim.Native.Nat.{ℕ, _+_, _-_, _≤_, _<_}
 use native.Mathlib.Omega.{arith}
@@ -20,23 +19,21 @@ use Rattle.rules.specs.Game.{Player}
 use Rattle.rules.specs.Hash.{stoneHash}
 use Rattle.rules.specs.Laws.Colours.{other-player}
 use Rattle.points.specs.declared.coord.Around.{Around}
-use Rattle.points.specs.Place.{placeOf}
 use Rattle.chains.specs.declared.group.Chain.{Chain}
-use Rattle.chains.specs.Group.{newChain, used, firstFree}
+use Rattle.chains.specs.Group.{newChain, firstFree}
 use Rattle.sets.specs.Liberties.{number}
 use Rattle.board.specs.declared.goban.Board.{Board}
-use Rattle.board.specs.Board.{owner, chainIn}
+use Rattle.board.specs.Board.{owner}
 use Rattle.board.specs.Laws.Chains.{Largest}
-use Rattle.steps.specs.Steps.{put, remove}
+use Rattle.steps.specs.Steps.{put}
 use Rattle.steps.specs.Putting.{Putting}
 use Rattle.steps.specs.Joining.{Joining}
 use Rattle.steps.specs.Laws.Put.{point-fits}
 use Rattle.laying.specs.declared.lay.Laid as code
-use Rattle.laying.specs.Laying.{LaidOut}
 use Rattle.laying.specs.Lay.{joinAll, dead, takeAll}
 use Rattle.laying.specs.Laws.Laying.{search-low, search-next, search-found, end-low, end-used, laid-out}
 use Rattle.laying.proofs.Alone.{placed, Passed, passed-owners, passed-owned, passed-unowned, passed-all}
-use Rattle.laying.proofs.Beside.{entry, Gathering, gathering-none, gathering-unowned, gathering-other, gathering-joining, gathering-join, gathering-all, taking-all}
+use Rattle.laying.proofs.Beside.{Gathering, gathering-none, gathering-unowned, gathering-other, gathering-joining, gathering-join, gathering-all, taking-all}
 use Rattle.laying.proofs.Lifting.{Ended, Lifting, Stands, lifting-none, lifting-unowned, lifting-other, lifting-removing, lifting-few, lifting-take, lifting-own}
 use Rattle.laying.proofs.Joined.{joined-walk, joined-links, joined-count, joined-all}
 use Rattle.laying.proofs.lay.lay.Statement.{statement}
