@@ -18,7 +18,7 @@ use types.Tokens.{lent-back}
 use denote.RattleType.{RattleType}
 use denote.Laws.{Is, Tells, Makes, shows}
 use denote.Memory.{cellAt, lone, partAt, partOf}
-use denote.Array.{Array, array-vals, array-tells, array-makes}
+use denote.Array.{Array, array-tells, array-makes}
 use denote.Lend.{LentShr, lends-shr}
 use denote.Steps.{owned, peeks}
 

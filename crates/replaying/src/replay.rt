@@ -54,12 +54,11 @@ fn unlaid(board: Board) -> Laid
 }
 
 // The state is judged once: each accepted entry leaves a true one. The loop holds the board and the numbers apart and gives neither to a function that gives the
-// game back: `lay` reads the board where it put the last one, and one exit makes a game of both. A stone is tested by what is seen of the board, which is
-// copied only where the records decide. The table is made once for all stones.
+// game back: `lay` reads the board where it put the last one, and one exit makes a game of both. A stone is tested by what is seen of the board, and
+// the tests take the board itself only where the records decide. The table is made once for all stones.
 pub fn replay(game: Game, history: &mut [u8], moves: &[Move]) -> Replayed
     ensures { λ r. ⌜ Replays (TrueState game × RoomIn game (length (now (history .entry)))) (rules.replay (viewOf game) (now (history .entry)) (entriesOf (now (moves .entry)))) game (now (history .entry)) r (now (history .exit)) ⌝ }
 {
-    let numbers = table();
     let mut laid = unlaid(game.board);
     let mut now = Ticked {
         answer: DAMAGED,
@@ -68,6 +67,8 @@ pub fn replay(game: Game, history: &mut [u8], moves: &[Move]) -> Replayed
     let mut at = 0;
     if judge_with(game, history.len()) {
         now.answer = ACCEPTED;
+        // Made only here: its many stores between the first copies of the game would hide these from the compiler, which then copies once more.
+        let numbers = table();
         while at < moves.len() {
             let entry = moves[at];
             if entry.kind == 0 {

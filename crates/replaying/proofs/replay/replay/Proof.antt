@@ -228,11 +228,16 @@ is-none c h = eqb-true c 0 (twice-not (eqb c 0) h)
 is-zero : (c : ℕ) → Holds (eqb c 0) → c ≡ 0
 is-zero c h = eqb-true c 0 (holds (eqb c 0) h)
 
--- ---- What the loop holds: the table, the board after the last stone and the game's numbers, with their machine values
+-- ---- What the loop holds: the table, and the board after the last stone and the game's numbers, with their machine values
 
-record Held : Type 0 where
+-- the table is made once, and never changed
+record Made : Type 0 where
   numbers : List ℕ
   table : Val
+  is : TableIs numbers table
+  whole : Numbers numbers
+
+record Held : Type 0 where
   laid : Laid
   board : Val
   ko : Val
@@ -243,8 +248,6 @@ abbrev game : Held → Game
 game h = gameOf (h .laid .board) (h .clock)
 
 record Lies (h : Held) : Type 0 where
-  tables : TableIs (h .numbers) (h .table)
-  whole : Numbers (h .numbers)
   boards : BoardIs (h .laid .board) (h .board)
   taken : h .laid .taken < 2 ^ 16
   lost : h .laid .lost < 2 ^ 16
@@ -252,20 +255,20 @@ record Lies (h : Held) : Type 0 where
   flags : h .clock .flags < 2 ^ 8
   clocks : ClockIs (h .clock) (clockVal (h .clock) (h .rest))
 
-module _ (ns : List ℕ) (u : Val) {l : Laid} {w : Val} {c : Clock} {v : Val} (laid : LaidApart l w) (clock : ClockApart c v) where
+module _ {l : Laid} {w : Val} {c : Clock} {v : Val} (laid : LaidApart l w) (clock : ClockApart c v) where
   abbrev held-of : Held
-  held-of = record { numbers = ns; table = u; laid = l; board = laid .board; ko = laid .ko; clock = c; rest = clock .rest }
+  held-of = record { laid = l; board = laid .board; ko = laid .ko; clock = c; rest = clock .rest }
 
-  held-lies : TableIs ns u → Numbers ns → Lies held-of
-  held-lies is whole = record { tables = is; whole = whole; boards = laid .boards; taken = laid .taken; lost = laid .lost; kos = laid .kos; flags = clock .flags; clocks = clock .is }
+  held-lies : Lies held-of
+  held-lies = record { boards = laid .boards; taken = laid .taken; lost = laid .lost; kos = laid .kos; flags = clock .flags; clocks = clock .is }
 
 -- the game's numbers are changed, and the rest stays
 module _ (h : Held) (lies : Lies h) {c : Clock} {v : Val} (clock : ClockApart c v) where
   abbrev ticked-to : Held
-  ticked-to = record { numbers = h .numbers; table = h .table; laid = h .laid; board = h .board; ko = h .ko; clock = c; rest = clock .rest }
+  ticked-to = record { laid = h .laid; board = h .board; ko = h .ko; clock = c; rest = clock .rest }
 
   ticked-lies : Lies ticked-to
-  ticked-lies = record { tables = lies .tables; whole = lies .whole; boards = lies .boards; taken = lies .taken; lost = lies .lost; kos = lies .kos; flags = clock .flags; clocks = clock .is }
+  ticked-lies = record { boards = lies .boards; taken = lies .taken; lost = lies .lost; kos = lies .kos; flags = clock .flags; clocks = clock .is }
 
 -- where the loop stands: how many entries were accepted, what is held after them, and the history
 record At : Type 0 where
@@ -332,8 +335,8 @@ function = record {
   outlives = [];
   params = 3;
   locals =
-      local R′.mir valueLocal ∷ local G′.mir valueLocal ∷ local τ₂ valueLocal ∷ local τ₃ valueLocal ∷ local tableTy memorySlot ∷ local L′.mir valueLocal ∷ local N′.mir valueLocal ∷ local (tyInt w64) valueLocal
-      ∷ local E′.mir valueLocal ∷ local S′.mir valueLocal ∷ local T′.mir valueLocal ∷ local tableTy valueLocal ∷ local K′.mir valueLocal ∷ local tyBool valueLocal ∷ local (tyInt w64) valueLocal ∷ local (tyInt w64) valueLocal
+      local R′.mir valueLocal ∷ local G′.mir valueLocal ∷ local τ₂ valueLocal ∷ local τ₃ valueLocal ∷ local L′.mir valueLocal ∷ local N′.mir valueLocal ∷ local (tyInt w64) valueLocal ∷ local tableTy memorySlot
+      ∷ local E′.mir valueLocal ∷ local S′.mir valueLocal ∷ local T′.mir valueLocal ∷ local K′.mir valueLocal ∷ local tyBool valueLocal ∷ local (tyInt w64) valueLocal ∷ local tableTy valueLocal ∷ local (tyInt w64) valueLocal
       ∷ local tyBool valueLocal ∷ local tyPtr valueLocal ∷ local E′.mir valueLocal ∷ local τ₁₉ valueLocal ∷ local τ₂₀ valueLocal ∷ local tyBool valueLocal ∷ local τ₁₉ valueLocal ∷ local τ₂₀ valueLocal
       ∷ local τ₂₄ valueLocal ∷ local G′.mir valueLocal ∷ [];
   body = body.t-1;
@@ -406,15 +409,15 @@ module _ {M : Type 1} (𝓤 : URA M) (H : Heap 𝓤) (A : Atoms 𝓤) (W : Given
 
     abbrev En : Env 𝓤 H
     En =
-        (R′.mir, l₀) ∷ (G′.mir, l₁) ∷ (τ₂, l₂) ∷ (τ₃, l₃) ∷ (tableTy, l₄) ∷ (L′.mir, l₅) ∷ (N′.mir, l₆) ∷ (tyInt w64, l₇) ∷ (E′.mir, l₈) ∷ (S′.mir, l₉) ∷ (T′.mir, l₁₀) ∷ (tableTy, l₁₁) ∷ (K′.mir, l₁₂) ∷ (tyBool, l₁₃) ∷ (tyInt w64, l₁₄) ∷ (tyInt w64, l₁₅) ∷ (tyBool, l₁₆) ∷ (tyPtr, l₁₇) ∷ (E′.mir, l₁₈) ∷ (τ₁₉, l₁₉) ∷ (τ₂₀, l₂₀) ∷ (tyBool, l₂₁) ∷ (τ₁₉, l₂₂) ∷ (τ₂₀, l₂₃) ∷ (τ₂₄, l₂₄) ∷ (G′.mir, l₂₅) ∷ []
+        (R′.mir, l₀) ∷ (G′.mir, l₁) ∷ (τ₂, l₂) ∷ (τ₃, l₃) ∷ (L′.mir, l₄) ∷ (N′.mir, l₅) ∷ (tyInt w64, l₆) ∷ (tableTy, l₇) ∷ (E′.mir, l₈) ∷ (S′.mir, l₉) ∷ (T′.mir, l₁₀) ∷ (K′.mir, l₁₁) ∷ (tyBool, l₁₂) ∷ (tyInt w64, l₁₃) ∷ (tableTy, l₁₄) ∷ (tyInt w64, l₁₅) ∷ (tyBool, l₁₆) ∷ (tyPtr, l₁₇) ∷ (E′.mir, l₁₈) ∷ (τ₁₉, l₁₉) ∷ (τ₂₀, l₂₀) ∷ (tyBool, l₂₁) ∷ (τ₁₉, l₂₂) ∷ (τ₂₀, l₂₃) ∷ (τ₂₄, l₂₄) ∷ (G′.mir, l₂₅) ∷ []
 
     -- the locals, each with what frees it: of the k-th, what it holds stands at 2 · k. From the 11th on each has room
     abbrev locals : Fml → Fml → Fml → Fml → Fml → Fml → Fml → Fml → Fml → Fml → Fml → List (Item 𝓤)
     locals f₀ f₁ f₂ f₃ f₄ f₅ f₆ f₇ f₈ f₉ f₁₀ =
         ‵ f₀ ∷ ‵ (fdies R′.mir l₀) ∷ ‵ f₁ ∷ ‵ (fdies G′.mir l₁) ∷ ‵ f₂ ∷ ‵ (fdies τ₂ l₂) ∷ ‵ f₃ ∷ ‵ (fdies τ₃ l₃)
-        ∷ ‵ f₄ ∷ ‵ (fdies tableTy l₄) ∷ ‵ f₅ ∷ ‵ (fdies L′.mir l₅) ∷ ‵ f₆ ∷ ‵ (fdies N′.mir l₆) ∷ ‵ f₇ ∷ ‵ (fdies (tyInt w64) l₇)
-        ∷ ‵ f₈ ∷ ‵ (fdies E′.mir l₈) ∷ ‵ f₉ ∷ ‵ (fdies S′.mir l₉) ∷ ‵ f₁₀ ∷ ‵ (fdies T′.mir l₁₀) ∷ ‵ (froom tableTy l₁₁ 0) ∷ ‵ (fdies tableTy l₁₁)
-        ∷ ‵ (froom K′.mir l₁₂ 0) ∷ ‵ (fdies K′.mir l₁₂) ∷ ‵ (froom tyBool l₁₃ 0) ∷ ‵ (fdies tyBool l₁₃) ∷ ‵ (froom (tyInt w64) l₁₄ 0) ∷ ‵ (fdies (tyInt w64) l₁₄) ∷ ‵ (froom (tyInt w64) l₁₅ 0) ∷ ‵ (fdies (tyInt w64) l₁₅)
+        ∷ ‵ f₄ ∷ ‵ (fdies L′.mir l₄) ∷ ‵ f₅ ∷ ‵ (fdies N′.mir l₅) ∷ ‵ f₆ ∷ ‵ (fdies (tyInt w64) l₆) ∷ ‵ f₇ ∷ ‵ (fdies tableTy l₇)
+        ∷ ‵ f₈ ∷ ‵ (fdies E′.mir l₈) ∷ ‵ f₉ ∷ ‵ (fdies S′.mir l₉) ∷ ‵ f₁₀ ∷ ‵ (fdies T′.mir l₁₀) ∷ ‵ (froom K′.mir l₁₁ 0) ∷ ‵ (fdies K′.mir l₁₁)
+        ∷ ‵ (froom tyBool l₁₂ 0) ∷ ‵ (fdies tyBool l₁₂) ∷ ‵ (froom (tyInt w64) l₁₃ 0) ∷ ‵ (fdies (tyInt w64) l₁₃) ∷ ‵ (froom tableTy l₁₄ 0) ∷ ‵ (fdies tableTy l₁₄) ∷ ‵ (froom (tyInt w64) l₁₅ 0) ∷ ‵ (fdies (tyInt w64) l₁₅)
         ∷ ‵ (froom tyBool l₁₆ 0) ∷ ‵ (fdies tyBool l₁₆) ∷ ‵ (froom tyPtr l₁₇ 0) ∷ ‵ (fdies tyPtr l₁₇) ∷ ‵ (froom E′.mir l₁₈ 0) ∷ ‵ (fdies E′.mir l₁₈) ∷ ‵ (froom τ₁₉ l₁₉ 0) ∷ ‵ (fdies τ₁₉ l₁₉)
         ∷ ‵ (froom τ₂₀ l₂₀ 0) ∷ ‵ (fdies τ₂₀ l₂₀) ∷ ‵ (froom tyBool l₂₁ 0) ∷ ‵ (fdies tyBool l₂₁) ∷ ‵ (froom τ₁₉ l₂₂ 0) ∷ ‵ (fdies τ₁₉ l₂₂) ∷ ‵ (froom τ₂₀ l₂₃ 0) ∷ ‵ (fdies τ₂₀ l₂₃)
         ∷ ‵ (froom τ₂₄ l₂₄ 0) ∷ ‵ (fdies τ₂₄ l₂₄) ∷ ‵ (froom G′.mir l₂₅ 0) ∷ ‵ (fdies G′.mir l₂₅) ∷ []
@@ -427,18 +430,18 @@ module _ {M : Type 1} (𝓤 : URA M) (H : Heap 𝓤) (A : Atoms 𝓤) (W : Given
     abbrev idle : Fml → Fml → Fml → Fml → List (Item 𝓤)
     idle f₄ f₅ f₆ f₇ = running (froom G′.mir l₁ 0) f₄ f₅ f₆ f₇ (froom E′.mir l₈ 0) (froom S′.mir l₉ 0) (froom T′.mir l₁₀ 0)
 
-    abbrev table-at : Held → Fml
-    table-at h = fat fullShare tableTy l₄ 0 (h .table)
-
     -- the board after the last stone, the answer so far and the numbers after it, and how many entries were accepted
     abbrev lies-at : Held → Fml
-    lies-at h = fat fullShare L′.mir l₅ 0 (laidVal (h .laid) (h .board) (h .ko))
+    lies-at h = fat fullShare L′.mir l₄ 0 (laidVal (h .laid) (h .board) (h .ko))
 
     abbrev now : ℕ → Held → Fml
-    now c h = fat fullShare N′.mir l₆ 0 (tickedVal c (clockVal (h .clock) (h .rest)))
+    now c h = fat fullShare N′.mir l₅ 0 (tickedVal c (clockVal (h .clock) (h .rest)))
 
     abbrev count : ℕ → Fml
-    count i = fat fullShare (tyInt w64) l₇ 0 (vint w64 i)
+    count i = fat fullShare (tyInt w64) l₆ 0 (vint w64 i)
+
+    abbrev table-at : Made → Fml
+    table-at d = fat fullShare tableTy l₇ 0 (d .table)
 
     -- the moves
     abbrev seen : Fml
@@ -448,7 +451,7 @@ module _ {M : Type 1} (𝓤 : URA M) (H : Heap 𝓤) (A : Atoms 𝓤) (W : Given
 
     -- every local is freed
     released : (w : Val) (zs : List ℕ) → ent 𝓤 (⋆ 𝓤 H A (‵ (lent zs n) ∷ ‵ (flft κ q) ∷ ‵ (flft κ′ q′) ∷ [])) (Post w)
-        → Sq W (‵ (lent zs n) ∷ ‵ (flft κ q) ∷ ‵ (flft κ′ q′) ∷ locals (froom R′.mir l₀ 0) (froom G′.mir l₁ 0) (froom τ₂ l₂ 0) (froom τ₃ l₃ 0) (froom tableTy l₄ 0) (froom L′.mir l₅ 0) (froom N′.mir l₆ 0) (froom (tyInt w64) l₇ 0) (froom E′.mir l₈ 0) (froom S′.mir l₉ 0) (froom T′.mir l₁₀ 0)) (frees En (prop (Post w)))
+        → Sq W (‵ (lent zs n) ∷ ‵ (flft κ q) ∷ ‵ (flft κ′ q′) ∷ locals (froom R′.mir l₀ 0) (froom G′.mir l₁ 0) (froom τ₂ l₂ 0) (froom τ₃ l₃ 0) (froom L′.mir l₄ 0) (froom N′.mir l₅ 0) (froom (tyInt w64) l₆ 0) (froom tableTy l₇ 0) (froom E′.mir l₈ 0) (froom S′.mir l₉ 0) (froom T′.mir l₁₀ 0)) (frees En (prop (Post w)))
     released w zs k =
         move ! (3 ∷ 4 ∷ []) $ free1 ! $ move ! (3 ∷ 4 ∷ []) $ free1 ! $ move ! (3 ∷ 4 ∷ []) $ free1 ! $ move ! (3 ∷ 4 ∷ []) $ free1 ! $ move ! (3 ∷ 4 ∷ []) $ free1 ! $
         move ! (3 ∷ 4 ∷ []) $ free1 ! $ move ! (3 ∷ 4 ∷ []) $ free1 ! $ move ! (3 ∷ 4 ∷ []) $ free1 ! $ move ! (3 ∷ 4 ∷ []) $ free1 ! $ move ! (3 ∷ 4 ∷ []) $ free1 ! $
@@ -474,20 +477,21 @@ module _ {M : Type 1} (𝓤 : URA M) (H : Heap 𝓤) (A : Atoms 𝓤) (W : Given
     made-of h r = exE 𝓤 _ (λ ws. snd∗ 𝓤 (sem 𝓤 H A (lasts makes.ended tt (to-make h .0 .3) ws)) (fact 𝓤 (r ≡ game h)))
 
     module _ (fm : FmC 𝓤 H (W .laws) C) (whole-game : Triple 𝓤 (C #makes) (Makes 𝓤 H A at-mem run)) where
+      -- nothing is in the table's local: a damaged state has no table yet, and the loop lets its own go
       leaves : (i c : ℕ) (h : Held) (zs : List ℕ) → i < 2 ^ 64 → c < 2 ^ 8 → Lies h → Good (record { entries = i; answer = c; game = game h }) zs → length zs ≡ n
-          → ent 𝓤 (⋆ 𝓤 H A (‵ (lent zs n) ∷ ‵ (flft κ q) ∷ ‵ (flft κ′ q′) ∷ idle (table-at h) (lies-at h) (now c h) (count i))) (Wp 𝓤 H C Λ En body.t-10 Leaves)
+          → ent 𝓤 (⋆ 𝓤 H A (‵ (lent zs n) ∷ ‵ (flft κ q) ∷ ‵ (flft κ′ q′) ∷ idle (lies-at h) (now c h) (count i) (froom tableTy l₇ 0))) (Wp 𝓤 H C Λ En body.t-8 Leaves)
       leaves i c h zs counted fits lies good long =
-          qed W (‵ (lent zs n) ∷ ‵ (flft κ q) ∷ ‵ (flft κ′ q′) ∷ idle (table-at h) (lies-at h) (now c h) (count i)) ∵ exec ! C Λ En body.t-10 (atRet En Post) $
+          qed W (‵ (lent zs n) ∷ ‵ (flft κ q) ∷ ‵ (flft κ′ q′) ∷ idle (lies-at h) (now c h) (count i) (froom tableTy l₇ 0)) ∵ exec ! C Λ En body.t-8 (atRet En Post) $
           use0 W (raw (Makes 𝓤 H A at-mem run .pre (to-make h))) (goes-make h lies) $
           calls-at ! fm (Makes 𝓤 H A at-mem run) whole-game (to-make h)
-          (and-then ! (load ! (from ! (fld ! refl (stop !))) (look-in ! 14 (sub ! 0 refl (whole !)))) (and-then ! (load ! (from ! (fld ! refl (stop !))) (look-in ! 16 (sub ! 1 refl (whole !)))) (no-more !))) (λ w.
+          (and-then ! (load ! (from ! (fld ! refl (stop !))) (look-in ! 12 (sub ! 0 refl (whole !)))) (and-then ! (load ! (from ! (fld ! refl (stop !))) (look-in ! 14 (sub ! 1 refl (whole !)))) (no-more !))) (λ w.
           use1 W (later (some (λ (r : Game). (‵ ftrue ⊛ ‵ (G.the-row .own r (w ∷ []))) ⊛ raw (ensured 𝓤 H A makes.ended (makes.clauses 𝓤 H A at-mem run) tt (to-make h .0 .3) tt r)))) (id⊢ 𝓤 _) $ await ! tt $ pick ! (λ r.
           split ! $ move ! (1 ∷ []) $ use1 W (raw (fact 𝓤 (r ≡ game h))) (made-of h r) $ heard ! (r ≡ game h) (λ made.
           split ! $ drop ! $ peeks ! G.the-row (Is G.the-row) (shows 𝓤 H A G.the-row) r (w ∷ []) (λ is.
           land ! (from ! (stop !)) (init ! 54 refl (game-typed 𝓤 H A W r w is)) $ drop ! $
-          assigns ! (agg ! (and-then ! (load ! (from ! (stop !)) (look ! 17 refl)) (and-then ! (load ! (from ! (fld ! refl (stop !))) (look-in ! 15 (sub ! 0 refl (whole !))))
+          assigns ! (agg ! (and-then ! (load ! (from ! (stop !)) (look ! 15 refl)) (and-then ! (load ! (from ! (fld ! refl (stop !))) (look-in ! 13 (sub ! 0 refl (whole !))))
           (and-then ! (load ! (from ! (stop !)) (look ! 53 refl)) (no-more !))))) (from ! (stop !)) (init ! 3 refl (replayed-typed 𝓤 H A W (record { entries = i; answer = c; game = r }) (replayedVal i c w) (replayed-is i c r w counted fits is))) $
-          returns ! (look ! 3 refl) $ forget ! 3 refl $ forget ! 7 refl $ forget ! 9 refl $ forget ! 11 refl $ forget ! 13 refl $ forget ! 15 refl $ forget ! 17 refl $ forget ! 53 refl $
+          returns ! (look ! 3 refl) $ forget ! 3 refl $ forget ! 7 refl $ forget ! 9 refl $ forget ! 11 refl $ forget ! 13 refl $ forget ! 15 refl $ forget ! 53 refl $
           released (replayedVal i c w) zs (exits (record { entries = i; answer = c; game = r }) (replayedVal i c w) zs (replayed-is i c r w counted fits is)
           (subst (λ (g : Game). Good (record { entries = i; answer = c; game = g }) zs) (sym made) good) long)))))
 
@@ -538,11 +542,11 @@ module _ {M : Type 1} (𝓤 : URA M) (H : Heap 𝓤) (A : Atoms 𝓤) (W : Given
     entry-typed : (e : Move) → Bytes e → Holds (hasTy E′.mir (entryVal e)) × WT (entryVal e)
     entry-typed e is = (tt, (record { fits = is .kind }, (record { fits = is .row }, (record { fits = is .column }, tt))))
 
-    abbrev Turning : Held → ℕ → ℕ → List ℕ → Fml → Fml → Fml → List (Item 𝓤)
-    Turning h c i zs f₈ f₉ f₁₀ = ‵ (lent zs n) ∷ ‵ (flft κ q) ∷ ‵ (flft κ′ q′) ∷ ‵ seen ∷ running (froom G′.mir l₁ 0) (table-at h) (lies-at h) (now c h) (count i) f₈ f₉ f₁₀
+    abbrev Turning : Made → Held → ℕ → ℕ → List ℕ → Fml → Fml → Fml → List (Item 𝓤)
+    Turning d h c i zs f₈ f₉ f₁₀ = ‵ (lent zs n) ∷ ‵ (flft κ q) ∷ ‵ (flft κ′ q′) ∷ ‵ seen ∷ running (froom G′.mir l₁ 0) (lies-at h) (now c h) (count i) (table-at d) f₈ f₉ f₁₀
 
-    abbrev Idle : Held → ℕ → ℕ → List ℕ → List (Item 𝓤)
-    Idle h c i zs = Turning h c i zs (froom E′.mir l₈ 0) (froom S′.mir l₉ 0) (froom T′.mir l₁₀ 0)
+    abbrev Idle : Made → Held → ℕ → ℕ → List ℕ → List (Item 𝓤)
+    Idle d h c i zs = Turning d h c i zs (froom E′.mir l₈ 0) (froom S′.mir l₉ 0) (froom T′.mir l₁₀ 0)
 
     abbrev entered-at : ℕ → Fml
     entered-at i = fat fullShare E′.mir l₈ 0 (entryVal (entry i))
@@ -554,16 +558,16 @@ module _ {M : Type 1} (𝓤 : URA M) (H : Heap 𝓤) (A : Atoms 𝓤) (W : Given
     turned-at r = fat fullShare T′.mir l₁₀ 0 (turnVal r)
 
     -- the entry is copied out of the moves
-    reads : Room E.the-row m → (i : ℕ) (h : Held) (zs : List ℕ) (Q : Out → SProp 𝓤) → i < m
-        → (Bytes (entry i) → ent 𝓤 (⋆ 𝓤 H A (Turning h 0 i zs (entered-at i) (froom S′.mir l₉ 0) (froom T′.mir l₁₀ 0))) (Wp 𝓤 H C Λ En calling Q))
-        → ent 𝓤 (⋆ 𝓤 H A (Idle h 0 i zs)) (Wp 𝓤 H C Λ En body.turn-1 Q)
-    reads room i h zs Q more k =
-        qed W (Idle h 0 i zs) ∵ exec ! C Λ En body.turn-1 (anyQ Q) $
+    reads : Room E.the-row m → (d : Made) (i : ℕ) (h : Held) (zs : List ℕ) (Q : Out → SProp 𝓤) → i < m
+        → (Bytes (entry i) → ent 𝓤 (⋆ 𝓤 H A (Turning d h 0 i zs (entered-at i) (froom S′.mir l₉ 0) (froom T′.mir l₁₀ 0))) (Wp 𝓤 H C Λ En calling Q))
+        → ent 𝓤 (⋆ 𝓤 H A (Idle d h 0 i zs)) (Wp 𝓤 H C Λ En body.turn-1 Q)
+    reads room d i h zs Q more k =
+        qed W (Idle d h 0 i zs) ∵ exec ! C Λ En body.turn-1 (anyQ Q) $
         assigns ! (of-opd ! (load ! (from ! (fld ! refl (stop !))) (look-in ! 10 (sub ! 1 refl (whole !))))) (from ! (stop !)) (init ! 34 refl (tt, record { fits = room .0 })) $
-        assigns ! (bin ! (load ! (from ! (stop !)) (look ! 18 refl)) (load ! (from ! (stop !)) (look ! 34 refl)) tt) (from ! (stop !)) (init ! 36 refl (tt, tt)) $
+        assigns ! (bin ! (load ! (from ! (stop !)) (look ! 16 refl)) (load ! (from ! (stop !)) (look ! 34 refl)) tt) (from ! (stop !)) (init ! 36 refl (tt, tt)) $
         rewrite ! 36 (λ (u : Bool). ‵ (fat fullShare tyBool l₁₆ 0 (vbool u))) (lt-ltb i m more) refl $
         stays ! (load ! (from ! (stop !)) (look ! 36 refl)) $
-        assigns ! (bin ! (load ! (from ! (stop !)) (look ! 18 refl)) (lit ! tt) (record { fits = far })) (from ! (stop !)) (store ! 34 refl (tt, record { fits = far })) $
+        assigns ! (bin ! (load ! (from ! (stop !)) (look ! 16 refl)) (lit ! tt) (record { fits = far })) (from ! (stop !)) (store ! 34 refl (tt, record { fits = far })) $
         assigns ! (bin ! (load ! (from ! (fld ! refl (stop !))) (look-in ! 10 (sub ! 0 refl (whole !)))) (load ! (from ! (stop !)) (look ! 34 refl)) tt) (from ! (stop !)) (init ! 38 refl (tt, tt)) $
         move ! (3 ∷ 2 ∷ []) $ looks-slice ! tt E.the-row (Is E.the-row) (shows 𝓤 H A E.the-row) (LL.vals E.the-type E′.the-laws) (LL.tells E.the-type E′.the-laws) (LL.copy E.the-type E′.the-copy 𝓤 H A W) ms b′ o′ (λ p.
         elem-out ! E.the-row (Is E.the-row) (shows 𝓤 H A E.the-row) (LL.vals E.the-type E′.the-laws) (LL.tells E.the-type E′.the-laws) p ms i none′ b′ o′ more (λ is.
@@ -637,39 +641,39 @@ module _ {M : Type 1} (𝓤 : URA M) (H : Heap 𝓤) (A : Atoms 𝓤) (W : Given
         owned ! B.the-row (Is B.the-row) (LL.makes B.the-type B′.the-plain 𝓤 H A) (h .laid .board) (h .board ∷ []) (lies .boards) $ fjoin ! $ done !
 
     -- laying's: the table lent for the lifetime ν, under the name δ
-    abbrev table-ref : GName → Held → RefT (List ℕ)
-    table-ref δ h = record { ptr = (l₄, 0); name = δ; now = h .numbers }
+    abbrev table-ref : GName → Made → RefT (List ℕ)
+    table-ref δ d = record { ptr = (l₇, 0); name = δ; now = d .numbers }
 
-    abbrev table-lent : ℕ → GName → Held → Fml
-    table-lent ν δ h = ShrRef (named 0) (ν ∷ []) Table .own (table-ref δ h) (vptr l₄ 0 ∷ [])
+    abbrev table-lent : ℕ → GName → Made → Fml
+    table-lent ν δ d = ShrRef (named 0) (ν ∷ []) Table .own (table-ref δ d) (vptr l₇ 0 ∷ [])
 
-    abbrev to-lay : ℕ → GName → Held → Turn → Lay 𝓤 H A at-mem run .Ghost
-    to-lay ν δ h r = (
+    abbrev to-lay : ℕ → GName → Made → Held → Turn → Lay 𝓤 H A at-mem run .Ghost
+    to-lay ν δ d h r = (
       (
         (ν ∷ [], tt),
         (fullShare, tt),
         tt,
-        (h .laid .board, (table-ref δ h, (r .point, (r .mover, (h .clock .flags, tt))))),
-        (h .board ∷ [], (vptr l₄ 0 ∷ [], (vint w64 (r .point) ∷ [], (vint w8 (r .mover) ∷ [], (vint w8 (h .clock .flags) ∷ [], tt))))),
+        (h .laid .board, (table-ref δ d, (r .point, (r .mover, (h .clock .flags, tt))))),
+        (h .board ∷ [], (vptr l₇ 0 ∷ [], (vint w64 (r .point) ∷ [], (vint w8 (r .mover) ∷ [], (vint w8 (h .clock .flags) ∷ [], tt))))),
       ),
       tt,
     )
 
-    goes-lay : (ν : ℕ) (δ : GName) (h : Held) (r : Turn) {w : Val} → Lies h → TurnApart r w → Laying (h .laid .board) (r .point) (r .mover) (h .clock .flags)
-        → ent 𝓤 (sep 𝓤 (A .lft (ν ∷ []) fullShare) (sem 𝓤 H A (table-lent ν δ h))) (Lay 𝓤 H A at-mem run .pre (to-lay ν δ h r))
-    goes-lay ν δ h r lies fits ok =
+    goes-lay : (ν : ℕ) (δ : GName) (d : Made) (h : Held) (r : Turn) {w : Val} → Lies h → TurnApart r w → Laying (h .laid .board) (r .point) (r .mover) (h .clock .flags)
+        → ent 𝓤 (sep 𝓤 (A .lft (ν ∷ []) fullShare) (sem 𝓤 H A (table-lent ν δ d))) (Lay 𝓤 H A at-mem run .pre (to-lay ν δ d h r))
+    goes-lay ν δ d h r lies fits ok =
         via 𝓤 _
-        (qed W (‵ (flft (ν ∷ []) fullShare) ∷ ‵ (table-lent ν δ h) ∷ []) ∵ says ! (lies .whole) $ says ! ok $ nothing ! $ move ! (1 ∷ 0 ∷ []) $ join ! $ frame ! $
+        (qed W (‵ (flft (ν ∷ []) fullShare) ∷ ‵ (table-lent ν δ d) ∷ []) ∵ says ! (d .whole) $ says ! ok $ nothing ! $ move ! (1 ∷ 0 ∷ []) $ join ! $ frame ! $
         nothing ! $ owned ! u8 (Is u8) (uint-makes 𝓤 H A W w8) (h .clock .flags) _ (refl, lies .flags) $ fjoin ! $
         owned ! u8 (Is u8) (uint-makes 𝓤 H A W w8) (r .mover) _ (refl, fits .mover) $ fjoin ! $ owned ! usize (Is usize) (uint-makes 𝓤 H A W w64) (r .point) _ (refl, fits .point) $ fjoin ! $
         move ! (1 ∷ 0 ∷ []) $ fjoin ! $ owned ! B.the-row (Is B.the-row) (LL.makes B.the-type B′.the-plain 𝓤 H A) (h .laid .board) (h .board ∷ []) (lies .boards) $ fjoin ! $ done !)
-        (assoc∗ 𝓤 (onEntry 𝓤 H A lay.signature (ν ∷ [], tt) (fullShare, tt) (to-lay ν δ h r .0 .3) (to-lay ν δ h r .0 .4)) (fact 𝓤 (Laying (h .laid .board) (r .point) (r .mover) (h .clock .flags))) (fact 𝓤 (Numbers (h .numbers))))
+        (assoc∗ 𝓤 (onEntry 𝓤 H A lay.signature (ν ∷ [], tt) (fullShare, tt) (to-lay ν δ d h r .0 .3) (to-lay ν δ d h r .0 .4)) (fact 𝓤 (Laying (h .laid .board) (r .point) (r .mover) (h .clock .flags))) (fact 𝓤 (Numbers (d .numbers))))
 
     abbrev Out′ : Held → Turn → Laid → Type 0
     Out′ h r l = LaidOut (h .laid .board) (r .point) (r .mover) (h .clock .flags) l
 
-    out-of : (ν : ℕ) (δ : GName) (h : Held) (r : Turn) (l : Laid) → ent 𝓤 (ensured 𝓤 H A lay.ended (lay.clauses 𝓤 H A at-mem run) (ν ∷ [], tt) (to-lay ν δ h r .0 .3) tt l) (fact 𝓤 (Out′ h r l))
-    out-of ν δ h r l = exE 𝓤 _ (λ ws. snd∗ 𝓤 (sem 𝓤 H A (lasts lay.ended (ν ∷ [], tt) (to-lay ν δ h r .0 .3) ws)) (fact 𝓤 (Out′ h r l)))
+    out-of : (ν : ℕ) (δ : GName) (d : Made) (h : Held) (r : Turn) (l : Laid) → ent 𝓤 (ensured 𝓤 H A lay.ended (lay.clauses 𝓤 H A at-mem run) (ν ∷ [], tt) (to-lay ν δ d h r .0 .3) tt l) (fact 𝓤 (Out′ h r l))
+    out-of ν δ d h r l = exE 𝓤 _ (λ ws. snd∗ 𝓤 (sem 𝓤 H A (lasts lay.ended (ν ∷ [], tt) (to-lay ν δ d h r .0 .3) ws)) (fact 𝓤 (Out′ h r l)))
 
     -- nothing is lent to the others
     abbrev to-shift : Held → Turn → Laid → Val → Shift 𝓤 H A at-mem run .Ghost
@@ -712,7 +716,7 @@ module _ {M : Type 1} (𝓤 : URA M) (H : Heap 𝓤) (A : Atoms 𝓤) (W : Given
     entered-of h e k = exE 𝓤 _ (λ ws. snd∗ 𝓤 (sem 𝓤 H A (lasts enter.ended tt (to-enter h e .0 .3) ws)) (fact 𝓤 (Entered h e k)))
 
     abbrev Left : Out → SProp 𝓤
-    Left = afterBlock 𝓤 H (afterSeq 𝓤 H (Wp 𝓤 H C Λ En body.t-10 Leaves) Leaves)
+    Left = afterBlock 𝓤 H (afterSeq 𝓤 H (Wp 𝓤 H C Λ En body.t-8 Leaves) Leaves)
 
     -- what the rules' entry promises, and what a stone's tests do
     abbrev Told : Game → List ℕ → Move → ℕ → Game → List ℕ → Type 0
@@ -732,7 +736,7 @@ module _ {M : Type 1} (𝓤 : URA M) (H : Heap 𝓤) (A : Atoms 𝓤) (W : Given
     Rest h g zs r zs′ = (row column : ℕ) → Shown (h .laid .board) g (h .clock) (length zs) row column → Undecided (game h) row column → Tested (game h) zs row column r zs′
 
     module _ (fm : FmC 𝓤 H (W .laws) C) (whole-game : Triple 𝓤 (C #makes) (Makes 𝓤 H A at-mem run)) (sees : Triple 𝓤 (C #see) (See 𝓤 H A at-mem run)) (tests : Triple 𝓤 (C #test) (Test 𝓤 H A at-mem run)) (settles : Triple 𝓤 (C #settle) (Settle 𝓤 H A at-mem run)) (lays : Triple 𝓤 (C #lay) (Lay 𝓤 H A at-mem run))
-        (shifts : Triple 𝓤 (C #shift) (Shift 𝓤 H A at-mem run)) (known : Triple 𝓤 (C #enter) (Enter 𝓤 H A at-mem run)) (ok : TrueState g₀ × RoomIn g₀ n) (room : Room u8 n) (room′ : Room E.the-row m) where
+        (shifts : Triple 𝓤 (C #shift) (Shift 𝓤 H A at-mem run)) (known : Triple 𝓤 (C #enter) (Enter 𝓤 H A at-mem run)) (ok : TrueState g₀ × RoomIn g₀ n) (room : Room u8 n) (room′ : Room E.the-row m) (d : Made) where
       count-fits : (i : ℕ) → i < m → i < 2 ^ 64
       count-fits i more = omega (arith, more, room′ .0)
 
@@ -740,22 +744,22 @@ module _ {M : Type 1} (𝓤 : URA M) (H : Heap 𝓤) (A : Atoms 𝓤) (W : Given
       next-fits i more = omega (arith, more, room′ .0)
 
       module _ (i : ℕ) (h : Held) (lies : Lies h) (zs : List ℕ) (X : SProp 𝓤) (more : i < m) (sofar : SoFar g₀ ys ms i (game h) zs)
-          (k : (h′ : Held) (zs′ : List ℕ) → Lies h′ → SoFar g₀ ys ms (suc i) (game h′) zs′ → ent 𝓤 (⋆ 𝓤 H A (Idle h′ 0 (suc i) zs′)) X) where
+          (k : (h′ : Held) (zs′ : List ℕ) → Lies h′ → SoFar g₀ ys ms (suc i) (game h′) zs′ → ent 𝓤 (⋆ 𝓤 H A (Idle d h′ 0 (suc i) zs′)) X) where
         abbrev Turned : Out → SProp 𝓤
         Turned = afterTurn 𝓤 H X Left
 
         -- the entry is answered. Refused: the loop is left; accepted: one more
-        decides : (c : ℕ) (h′ : Held) (zs′ : List ℕ) → c < 2 ^ 8 → Lies h′ → Told (game h) zs (entry i) c (game h′) zs′ → ent 𝓤 (⋆ 𝓤 H A (Idle h′ c i zs′)) (Wp 𝓤 H C Λ En deciding Turned)
+        decides : (c : ℕ) (h′ : Held) (zs′ : List ℕ) → c < 2 ^ 8 → Lies h′ → Told (game h) zs (entry i) c (game h′) zs′ → ent 𝓤 (⋆ 𝓤 H A (Idle d h′ c i zs′)) (Wp 𝓤 H C Λ En deciding Turned)
         unfolding afterTurn
         decides c h′ zs′ fits lies′ told =
-            qed W (Idle h′ c i zs′) ∵ exec ! C Λ En deciding (anyQ Turned) $
-            assigns ! (bin ! (load ! (from ! (fld ! refl (stop !))) (look-in ! 16 (sub ! 0 refl (whole !)))) (lit ! tt) tt) (from ! (stop !)) (init ! 36 refl (tt, tt)) $
+            qed W (Idle d h′ c i zs′) ∵ exec ! C Λ En deciding (anyQ Turned) $
+            assigns ! (bin ! (load ! (from ! (fld ! refl (stop !))) (look-in ! 14 (sub ! 0 refl (whole !)))) (lit ! tt) tt) (from ! (stop !)) (init ! 36 refl (tt, tt)) $
             first ! $ branches ! (load ! (from ! (stop !)) (look ! 36 refl))
-            (λ refused. jumps ! $ forget ! 36 refl $ move ! (3 ∷ []) $ drop ! $
+            (λ refused. jumps ! $ forget ! 18 refl $ forget ! 36 refl $ move ! (3 ∷ []) $ drop ! $
             by ! (leaves fm whole-game i c h′ zs′ (count-fits i more) fits lies′ (replays-some g₀ ys ms ok sofar more none′ told (is-other c refused)) (told .long ∙ sofar .long)))
             (λ accepted. skips ! $ exec ! C Λ En counting (anyQ Turned) $
-            assigns-last ! (bin ! (load ! (from ! (stop !)) (look ! 18 refl)) (lit ! tt) (record { fits = next-fits i more })) (from ! (stop !)) (store ! 18 refl (tt, record { fits = next-fits i more })) $
-            forget ! 36 refl $ rewrite ! 18 (λ (j : ℕ). ‵ (count j)) (one-more i) refl $ rewrite ! 16 (λ (a : ℕ). ‵ (now a h′)) (is-none c accepted) refl $
+            assigns-last ! (bin ! (load ! (from ! (stop !)) (look ! 16 refl)) (lit ! tt) (record { fits = next-fits i more })) (from ! (stop !)) (store ! 16 refl (tt, record { fits = next-fits i more })) $
+            forget ! 36 refl $ rewrite ! 16 (λ (j : ℕ). ‵ (count j)) (one-more i) refl $ rewrite ! 14 (λ (a : ℕ). ‵ (now a h′)) (is-none c accepted) refl $
             by ! (k h′ zs′ lies′ (so-far-more g₀ ys ms ok sofar more none′ told (is-none c accepted))))
 
         -- a stone's part goes on with the decision
@@ -764,47 +768,47 @@ module _ {M : Type 1} (𝓤 : URA M) (H : Heap 𝓤) (A : Atoms 𝓤) (W : Given
 
         module _ (kind : entry i .kind ≡ 0) (r : Turn) {w : Val} (fits : TurnApart r w) (zs′ : List ℕ) (told : Tests h zs (entry i) r zs′) where
           -- it is accepted: it is laid, and the numbers are changed
-          places : r .answer ≡ 0 → ent 𝓤 (⋆ 𝓤 H A (Turning h (r .answer) i zs′ (froom E′.mir l₈ 0) (froom S′.mir l₉ 0) (turned-at r))) (Wp 𝓤 H C Λ En placing Branch)
+          places : r .answer ≡ 0 → ent 𝓤 (⋆ 𝓤 H A (Turning d h (r .answer) i zs′ (froom E′.mir l₈ 0) (froom S′.mir l₉ 0) (turned-at r))) (Wp 𝓤 H C Λ En placing Branch)
           places zero′ =
-              qed W (Turning h (r .answer) i zs′ (froom E′.mir l₈ 0) (froom S′.mir l₉ 0) (turned-at r)) ∵ exec ! C Λ En placing (anyQ Branch) $
+              qed W (Turning d h (r .answer) i zs′ (froom E′.mir l₈ 0) (froom S′.mir l₉ 0) (turned-at r)) ∵ exec ! C Λ En placing (anyQ Branch) $
               assigns ! (addr ! (from ! (stop !))) (from ! (stop !)) (init ! 52 refl (tt, tt)) $
               -- the table is lent, for a lifetime ν of the call
-              lft-new ! tt (λ ν. move ! (13 ∷ []) $
-              use1 W (later (some (λ (δ : GName). ‵ (table-lent ν δ h) ⊛ ‵ (flent (ν ∷ []) (partAt Table fullShare (h .numbers) l₄ 0)))))
-              (array-lent 𝓤 H A W u64 (uint-vals w64) (uint-tells w64) (uint-makes 𝓤 H A W w64) hashEntries (h .numbers) (h .table) (lies .tables) l₄ (ν ∷ []) (named 0)) $ await ! tt $ pick ! (λ δ. split ! $
-              move ! (2 ∷ 0 ∷ []) $ use2 W (raw (Lay 𝓤 H A at-mem run .pre (to-lay ν δ h r)))
-              (goes-lay ν δ h r lies fits (stone-laying (h .laid .board) (h .clock) (entry i .kind) kind zs (entry i .row) (entry i .column) r zs′ told zero′)) $
-              calls-at ! fm (Lay 𝓤 H A at-mem run) lays (to-lay ν δ h r)
-              (and-then ! (load ! (from ! (fld ! refl (stop !))) (look-in ! 15 (sub ! 0 refl (whole !)))) (and-then ! (load ! (from ! (stop !)) (look ! 53 refl)) (and-then ! (load ! (from ! (fld ! refl (stop !))) (look-in ! 25 (sub ! 2 refl (whole !))))
-              (and-then ! (load ! (from ! (fld ! refl (stop !))) (look-in ! 25 (sub ! 3 refl (whole !)))) (and-then ! (load ! (from ! (fld ! refl (fld ! refl (stop !)))) (look-in ! 17 (sub ! 0 refl (sub ! 1 refl (whole !))))) (no-more !)))))) (λ w₁.
-              use1 W (later (some (λ (l : Laid). ((‵ (flft (ν ∷ []) fullShare) ⊛ ‵ ftrue) ⊛ ‵ (L.the-row .own l (w₁ ∷ []))) ⊛ raw (ensured 𝓤 H A lay.ended (lay.clauses 𝓤 H A at-mem run) (ν ∷ [], tt) (to-lay ν δ h r .0 .3) tt l)))) (id⊢ 𝓤 _) $ await ! tt $ pick ! (λ l.
-              split ! $ move ! (1 ∷ []) $ use1 W (raw (fact 𝓤 (Out′ h r l))) (out-of ν δ h r l) $ heard ! (Out′ h r l) (λ out.
+              lft-new ! tt (λ ν. move ! (19 ∷ []) $
+              use1 W (later (some (λ (δ : GName). ‵ (table-lent ν δ d) ⊛ ‵ (flent (ν ∷ []) (partAt Table fullShare (d .numbers) l₇ 0)))))
+              (array-lent 𝓤 H A W u64 (uint-vals w64) (uint-tells w64) (uint-makes 𝓤 H A W w64) hashEntries (d .numbers) (d .table) (d .is) l₇ (ν ∷ []) (named 0)) $ await ! tt $ pick ! (λ δ. split ! $
+              move ! (2 ∷ 0 ∷ []) $ use2 W (raw (Lay 𝓤 H A at-mem run .pre (to-lay ν δ d h r)))
+              (goes-lay ν δ d h r lies fits (stone-laying (h .laid .board) (h .clock) (entry i .kind) kind zs (entry i .row) (entry i .column) r zs′ told zero′)) $
+              calls-at ! fm (Lay 𝓤 H A at-mem run) lays (to-lay ν δ d h r)
+              (and-then ! (load ! (from ! (fld ! refl (stop !))) (look-in ! 14 (sub ! 0 refl (whole !)))) (and-then ! (load ! (from ! (stop !)) (look ! 53 refl)) (and-then ! (load ! (from ! (fld ! refl (stop !))) (look-in ! 25 (sub ! 2 refl (whole !))))
+              (and-then ! (load ! (from ! (fld ! refl (stop !))) (look-in ! 25 (sub ! 3 refl (whole !)))) (and-then ! (load ! (from ! (fld ! refl (fld ! refl (stop !)))) (look-in ! 16 (sub ! 0 refl (sub ! 1 refl (whole !))))) (no-more !)))))) (λ w₁.
+              use1 W (later (some (λ (l : Laid). ((‵ (flft (ν ∷ []) fullShare) ⊛ ‵ ftrue) ⊛ ‵ (L.the-row .own l (w₁ ∷ []))) ⊛ raw (ensured 𝓤 H A lay.ended (lay.clauses 𝓤 H A at-mem run) (ν ∷ [], tt) (to-lay ν δ d h r .0 .3) tt l)))) (id⊢ 𝓤 _) $ await ! tt $ pick ! (λ l.
+              split ! $ move ! (1 ∷ []) $ use1 W (raw (fact 𝓤 (Out′ h r l))) (out-of ν δ d h r l) $ heard ! (Out′ h r l) (λ out.
               split ! $ move ! (1 ∷ []) $ peeks ! L.the-row (Is L.the-row) (shows 𝓤 H A L.the-row) l (w₁ ∷ []) (λ is.
-              land ! (from ! (stop !)) (store ! 16 refl (laid-typed 𝓤 H A W l w₁ is)) $ drop ! $
-              rewrite ! 15 (λ (u : Val). ‵ (fat fullShare L′.mir l₅ 0 u)) (laid-apart l w₁ is .whole) refl $
+              land ! (from ! (stop !)) (store ! 15 refl (laid-typed 𝓤 H A W l w₁ is)) $ drop ! $
+              rewrite ! 14 (λ (u : Val). ‵ (fat fullShare L′.mir l₄ 0 u)) (laid-apart l w₁ is .whole) refl $
               -- the lifetime is ended, and the table comes back to its place
               split ! $ lft-end ! tt $ move ! (0 ∷ 2 ∷ []) $
-              use2 W (later (‵ (table-at h))) (array-back 𝓤 H A W u64 (uint-vals w64) (uint-tells w64) (uint-makes 𝓤 H A W w64) hashEntries (h .numbers) (h .table) (lies .tables) l₄ (ν ∷ [])) $ await ! tt $
-              move ! (1 ∷ []) $ drop ! $ move ! (1 ∷ 2 ∷ 3 ∷ 4 ∷ 5 ∷ 6 ∷ 7 ∷ 8 ∷ 9 ∷ 10 ∷ 11 ∷ 12 ∷ []) $ forget ! 52 refl $
+              use2 W (later (‵ (table-at d))) (array-back 𝓤 H A W u64 (uint-vals w64) (uint-tells w64) (uint-makes 𝓤 H A W w64) hashEntries (d .numbers) (d .table) (d .is) l₇ (ν ∷ [])) $ await ! tt $
+              move ! (1 ∷ []) $ drop ! $ move ! (1 ∷ 2 ∷ 3 ∷ 4 ∷ 5 ∷ 6 ∷ 7 ∷ 8 ∷ 9 ∷ 10 ∷ 11 ∷ 12 ∷ 13 ∷ 14 ∷ 15 ∷ 16 ∷ 17 ∷ 18 ∷ []) $ forget ! 52 refl $
               use0 W (raw (Shift 𝓤 H A at-mem run .pre (to-shift h r l (laid-apart l w₁ is .ko)))) (goes-shift h r l lies fits (laid-apart l w₁ is) (laid-moving (h .laid .board) (h .clock) (entry i .kind) kind zs (entry i .row) (entry i .column) r zs′ told zero′ (sofar .kept) l out)) $
               calls-at-last ! fm (Shift 𝓤 H A at-mem run) shifts (to-shift h r l (laid-apart l w₁ is .ko))
-              (and-then ! (load ! (from ! (fld ! refl (stop !))) (look-in ! 17 (sub ! 1 refl (whole !)))) (and-then ! (load ! (from ! (fld ! refl (stop !))) (look-in ! 25 (sub ! 4 refl (whole !))))
-              (and-then ! (load ! (from ! (fld ! refl (stop !))) (look-in ! 15 (sub ! 1 refl (whole !)))) (and-then ! (load ! (from ! (fld ! refl (stop !))) (look-in ! 15 (sub ! 2 refl (whole !))))
-              (and-then ! (load ! (from ! (fld ! refl (stop !))) (look-in ! 15 (sub ! 3 refl (whole !)))) (no-more !)))))) (λ w₂.
+              (and-then ! (load ! (from ! (fld ! refl (stop !))) (look-in ! 15 (sub ! 1 refl (whole !)))) (and-then ! (load ! (from ! (fld ! refl (stop !))) (look-in ! 25 (sub ! 4 refl (whole !))))
+              (and-then ! (load ! (from ! (fld ! refl (stop !))) (look-in ! 13 (sub ! 1 refl (whole !)))) (and-then ! (load ! (from ! (fld ! refl (stop !))) (look-in ! 13 (sub ! 2 refl (whole !))))
+              (and-then ! (load ! (from ! (fld ! refl (stop !))) (look-in ! 13 (sub ! 3 refl (whole !)))) (no-more !)))))) (λ w₂.
               use1 W (later (some (λ (c : Ticked). (‵ ftrue ⊛ ‵ (N.the-row .own c (w₂ ∷ []))) ⊛ raw (ensured 𝓤 H A shift.ended (shift.clauses 𝓤 H A at-mem run) tt (to-shift h r l (laid-apart l w₁ is .ko) .0 .3) tt c)))) (id⊢ 𝓤 _) $ await ! tt $ pick ! (λ c.
               split ! $ move ! (1 ∷ []) $ use1 W (raw (fact 𝓤 (Shifted h r l c))) (shifted-of h r l (laid-apart l w₁ is .ko) c) $ heard ! (Shifted h r l c) (λ shifted.
               split ! $ drop ! $ peeks ! N.the-row (Is N.the-row) (shows 𝓤 H A N.the-row) c (w₂ ∷ []) (λ is₂.
-              land-last ! (from ! (stop !)) (store ! 17 refl (ticked-typed 𝓤 H A W c w₂ is₂)) $ drop ! $
-              rewrite ! 16 (λ (u : Val). ‵ (fat fullShare N′.mir l₆ 0 u)) (ticked-apart c w₂ is₂ .whole) refl $ forget ! 24 refl $
-              by ! (decides (c .answer) (held-of (h .numbers) (h .table) (laid-apart l w₁ is) (ticked-apart c w₂ is₂ .opened)) zs′ (ticked-apart c w₂ is₂ .fits)
-              (held-lies (h .numbers) (h .table) (laid-apart l w₁ is) (ticked-apart c w₂ is₂ .opened) (lies .tables) (lies .whole))
+              land-last ! (from ! (stop !)) (store ! 15 refl (ticked-typed 𝓤 H A W c w₂ is₂)) $ drop ! $
+              rewrite ! 14 (λ (u : Val). ‵ (fat fullShare N′.mir l₅ 0 u)) (ticked-apart c w₂ is₂ .whole) refl $ forget ! 24 refl $
+              by ! (decides (c .answer) (held-of (laid-apart l w₁ is) (ticked-apart c w₂ is₂ .opened)) zs′ (ticked-apart c w₂ is₂ .fits)
+              (held-lies (laid-apart l w₁ is) (ticked-apart c w₂ is₂ .opened))
               (stone-entered (h .laid .board) (h .clock) (entry i .kind) kind zs (entry i .row) (entry i .column) r zs′ told zero′ (sofar .kept) l out (sofar .room) c shifted))))))))))))
 
           -- the tests' answer is the answer
-          answers : ent 𝓤 (⋆ 𝓤 H A (Turning h 0 i zs′ (froom E′.mir l₈ 0) (froom S′.mir l₉ 0) (turned-at r))) (Wp 𝓤 H C Λ En answering Branch)
+          answers : ent 𝓤 (⋆ 𝓤 H A (Turning d h 0 i zs′ (froom E′.mir l₈ 0) (froom S′.mir l₉ 0) (turned-at r))) (Wp 𝓤 H C Λ En answering Branch)
           answers =
-              qed W (Turning h 0 i zs′ (froom E′.mir l₈ 0) (froom S′.mir l₉ 0) (turned-at r)) ∵ exec ! C Λ En answering (anyQ Branch) $
-              assigns ! (of-opd ! (load ! (from ! (fld ! refl (stop !))) (look-in ! 24 (sub ! 0 refl (whole !))))) (from ! (fld ! refl (stop !))) (store-in ! 16 (sub ! 0 refl (whole !)) (tt, record { fits = fits .answer })) $
+              qed W (Turning d h 0 i zs′ (froom E′.mir l₈ 0) (froom S′.mir l₉ 0) (turned-at r)) ∵ exec ! C Λ En answering (anyQ Branch) $
+              assigns ! (of-opd ! (load ! (from ! (fld ! refl (stop !))) (look-in ! 24 (sub ! 0 refl (whole !))))) (from ! (fld ! refl (stop !))) (store-in ! 14 (sub ! 0 refl (whole !)) (tt, record { fits = fits .answer })) $
               assigns ! (bin ! (load ! (from ! (fld ! refl (stop !))) (look-in ! 24 (sub ! 0 refl (whole !)))) (lit ! tt) tt) (from ! (stop !)) (init ! 46 refl (tt, tt)) $
               branches ! (load ! (from ! (stop !)) (look ! 46 refl))
               (λ accepted. forget ! 46 refl $ by ! (places (is-zero (r .answer) accepted)))
@@ -815,9 +819,9 @@ module _ {M : Type 1} (𝓤 : URA M) (H : Heap 𝓤) (A : Atoms 𝓤) (W : Given
         module _ (kind : entry i .kind ≡ 0) (g : Sight) (v : Val) (is : SightIs g v) (shown : Shows h g zs (entry i)) where
           -- where the records decide, they are looked through with the board; the history is lent once more, as it was
           settled : (r : Turn) {w : Val} → TurnApart r w → (zs′ : List ℕ) → FirstTested (game h) zs (entry i .row) (entry i .column) r zs′
-              → ent 𝓤 (⋆ 𝓤 H A (Turning h 0 i zs′ (froom E′.mir l₈ 0) (sight-at v) (turned-at r))) (Wp 𝓤 H C Λ En settling Branch)
+              → ent 𝓤 (⋆ 𝓤 H A (Turning d h 0 i zs′ (froom E′.mir l₈ 0) (sight-at v) (turned-at r))) (Wp 𝓤 H C Λ En settling Branch)
           settled r fits zs′ told =
-              qed W (Turning h 0 i zs′ (froom E′.mir l₈ 0) (sight-at v) (turned-at r)) ∵ exec ! C Λ En settling (anyQ Branch) $
+              qed W (Turning d h 0 i zs′ (froom E′.mir l₈ 0) (sight-at v) (turned-at r)) ∵ exec ! C Λ En settling (anyQ Branch) $
               assigns ! (of-opd ! (load ! (from ! (fld ! refl (stop !))) (look-in ! 24 (sub ! 1 refl (whole !))))) (from ! (stop !)) (init ! 46 refl (tt, tt)) $
               first ! $ branches ! (load ! (from ! (stop !)) (look ! 46 refl))
               (λ waits. forget ! 46 refl $ rewrite ! 0 (λ (l : List ℕ). ‵ (lent l n)) (told .lent (holds (r .undecided) waits)) refl $
@@ -830,7 +834,7 @@ module _ {M : Type 1} (𝓤 : URA M) (H : Heap 𝓤) (A : Atoms 𝓤) (W : Given
               move ! (2 ∷ 0 ∷ []) $ use2 W (raw (Settle 𝓤 H A at-mem run .pre (to-settle ν δ g v h zs)))
               (goes-settle ν δ g v h zs is lies (record { row = entry i .row; column = entry i .column; shown = shown; waits = told .waits (holds (r .undecided) waits) })) $
               calls-at-last ! fm (Settle 𝓤 H A at-mem run) settles (to-settle ν δ g v h zs)
-              (and-then ! (load ! (from ! (fld ! refl (stop !))) (look-in ! 14 (sub ! 0 refl (whole !)))) (and-then ! (load ! (from ! (stop !)) (look ! 22 refl)) (and-then ! (load ! (from ! (fld ! refl (stop !))) (look-in ! 16 (sub ! 1 refl (whole !))))
+              (and-then ! (load ! (from ! (fld ! refl (stop !))) (look-in ! 12 (sub ! 0 refl (whole !)))) (and-then ! (load ! (from ! (stop !)) (look ! 22 refl)) (and-then ! (load ! (from ! (fld ! refl (stop !))) (look-in ! 14 (sub ! 1 refl (whole !))))
               (and-then ! (load ! (from ! (stop !)) (look ! 50 refl)) (no-more !))))) (λ w.
               use1 W (later (some (λ (r′ : Turn). ((‵ (flft (ν ∷ []) fullShare) ⊛ ‵ ftrue) ⊛ ‵ (T.the-row .own r′ (w ∷ []))) ⊛ raw (ensured 𝓤 H A settle.ended (settle.clauses 𝓤 H A at-mem run) (ν ∷ [], tt) (to-settle ν δ g v h zs .0 .3) tt r′)))) (id⊢ 𝓤 _) $ await ! tt $ pick ! (λ r′.
               split ! $ move ! (1 ∷ []) $ use1 W (some (λ (ws : Unit {0} × (Unit {0} × (Unit {0} × (List ℕ × Unit {0})))). ‵ (lasts settle.ended (ν ∷ [], tt) (to-settle ν δ g v h zs .0 .3) ws) ⊛ raw (fact 𝓤 (Rest h g zs r′ (ws .1 .1 .1 .0))))) (id⊢ 𝓤 _) $ pick ! (λ ws.
@@ -844,9 +848,9 @@ module _ {M : Type 1} (𝓤 : URA M) (H : Heap 𝓤) (A : Atoms 𝓤) (W : Given
               by ! (answers kind r′ (turn-apart r′ w held) (ws .1 .1 .1 .0) (ended (entry i .row) (entry i .column) shown (told .waits (holds (r .undecided) waits)))))))))))))
               (λ decided. skips ! $ forget ! 22 refl $ forget ! 46 refl $ by ! (answers kind r fits zs′ (told .decided (fails (r .undecided) decided))))
 
-          tested : Bytes (entry i) → ent 𝓤 (⋆ 𝓤 H A (Turning h 0 i zs (entered-at i) (sight-at v) (froom T′.mir l₁₀ 0))) (Wp 𝓤 H C Λ En testing Branch)
+          tested : Bytes (entry i) → ent 𝓤 (⋆ 𝓤 H A (Turning d h 0 i zs (entered-at i) (sight-at v) (froom T′.mir l₁₀ 0))) (Wp 𝓤 H C Λ En testing Branch)
           tested fits =
-              qed W (Turning h 0 i zs (entered-at i) (sight-at v) (froom T′.mir l₁₀ 0)) ∵ exec ! C Λ En testing (anyQ Branch) $
+              qed W (Turning d h 0 i zs (entered-at i) (sight-at v) (froom T′.mir l₁₀ 0)) ∵ exec ! C Λ En testing (anyQ Branch) $
               assigns ! (addr ! (from ! (fld ! refl (hop ! (look-in ! 8 (sub ! 0 refl (whole !))) (stop !))))) (from ! (stop !)) (init ! 42 refl (tt, tt)) $
               assigns ! (agg ! (and-then ! (load ! (from ! (stop !)) (look ! 42 refl)) (and-then ! (load ! (from ! (fld ! refl (stop !))) (look-in ! 8 (sub ! 1 refl (whole !)))) (no-more !)))) (from ! (stop !)) (init ! 44 refl (tt, (tt, (record { fits = room .0 }, tt)))) $
               -- the history is lent again, for a lifetime ν of the call
@@ -857,7 +861,7 @@ module _ {M : Type 1} (𝓤 : URA M) (H : Heap 𝓤) (A : Atoms 𝓤) (W : Given
               move ! (2 ∷ 0 ∷ []) $ use2 W (raw (Test 𝓤 H A at-mem run .pre (to-test ν δ g v h zs (entry i))))
               (goes-test ν δ g v h zs (entry i) is lies fits (shown-ready (h .laid .board) g (h .clock) (length zs) (entry i .row) (entry i .column) shown)) $
               calls-at ! fm (Test 𝓤 H A at-mem run) tests (to-test ν δ g v h zs (entry i))
-              (and-then ! (load ! (from ! (stop !)) (look ! 22 refl)) (and-then ! (load ! (from ! (fld ! refl (stop !))) (look-in ! 16 (sub ! 1 refl (whole !)))) (and-then ! (load ! (from ! (stop !)) (look ! 44 refl))
+              (and-then ! (load ! (from ! (stop !)) (look ! 22 refl)) (and-then ! (load ! (from ! (fld ! refl (stop !))) (look-in ! 14 (sub ! 1 refl (whole !)))) (and-then ! (load ! (from ! (stop !)) (look ! 44 refl))
               (and-then ! (load ! (from ! (fld ! refl (stop !))) (look-in ! 20 (sub ! 1 refl (whole !)))) (and-then ! (load ! (from ! (fld ! refl (stop !))) (look-in ! 20 (sub ! 2 refl (whole !)))) (no-more !)))))) (λ w.
               use1 W (later (some (λ (r : Turn). ((‵ (flft (ν ∷ []) fullShare) ⊛ ‵ ftrue) ⊛ ‵ (T.the-row .own r (w ∷ []))) ⊛ raw (ensured 𝓤 H A test.ended (test.clauses 𝓤 H A at-mem run) (ν ∷ [], tt) (to-test ν δ g v h zs (entry i) .0 .3) tt r)))) (id⊢ 𝓤 _) $ await ! tt $ pick ! (λ r.
               -- what the tests ensure, at some last list
@@ -872,16 +876,16 @@ module _ {M : Type 1} (𝓤 : URA M) (H : Heap 𝓤) (A : Atoms 𝓤) (W : Given
               rewrite ! 0 (λ (c : ℕ). ‵ (lent (ws .1 .1 .0) c)) (sofar .long) refl $ move ! (2 ∷ 3 ∷ []) $ drop ! $ drop ! $ forget ! 20 refl $ forget ! 42 refl $ forget ! 44 refl $
               by ! (settled r (turn-apart r w held) (ws .1 .1 .0) (told (h .laid .board) shown))))))))))
 
-        plays : Bytes (entry i) → ent 𝓤 (⋆ 𝓤 H A (Turning h 0 i zs (entered-at i) (froom S′.mir l₉ 0) (froom T′.mir l₁₀ 0))) (Wp 𝓤 H C Λ En calling Turned)
+        plays : Bytes (entry i) → ent 𝓤 (⋆ 𝓤 H A (Turning d h 0 i zs (entered-at i) (froom S′.mir l₉ 0) (froom T′.mir l₁₀ 0))) (Wp 𝓤 H C Λ En calling Turned)
         plays fits =
-            qed W (Turning h 0 i zs (entered-at i) (froom S′.mir l₉ 0) (froom T′.mir l₁₀ 0)) ∵ exec ! C Λ En calling (anyQ Turned) $
+            qed W (Turning d h 0 i zs (entered-at i) (froom S′.mir l₉ 0) (froom T′.mir l₁₀ 0)) ∵ exec ! C Λ En calling (anyQ Turned) $
             assigns ! (bin ! (load ! (from ! (fld ! refl (stop !))) (look-in ! 20 (sub ! 0 refl (whole !)))) (lit ! tt) tt) (from ! (stop !)) (init ! 36 refl (tt, tt)) $
             first ! $ branches ! (load ! (from ! (stop !)) (look ! 36 refl))
             -- a stone: the board is looked at
             (λ stone. forget ! 36 refl $
             use0 W (raw (See 𝓤 H A at-mem run .pre (to-see h (entry i)))) (goes-see h (entry i) lies fits (board-true (h .laid .board) (h .clock) (sofar .kept))) $
             calls-at ! fm (See 𝓤 H A at-mem run) sees (to-see h (entry i))
-            (and-then ! (load ! (from ! (fld ! refl (stop !))) (look-in ! 15 (sub ! 0 refl (whole !)))) (and-then ! (load ! (from ! (fld ! refl (stop !))) (look-in ! 21 (sub ! 1 refl (whole !))))
+            (and-then ! (load ! (from ! (fld ! refl (stop !))) (look-in ! 13 (sub ! 0 refl (whole !)))) (and-then ! (load ! (from ! (fld ! refl (stop !))) (look-in ! 21 (sub ! 1 refl (whole !))))
             (and-then ! (load ! (from ! (fld ! refl (stop !))) (look-in ! 21 (sub ! 2 refl (whole !)))) (no-more !)))) (λ v.
             use1 W (later (some (λ (g : Sight). (‵ ftrue ⊛ ‵ (S.the-row .own g (v ∷ []))) ⊛ raw (ensured 𝓤 H A see.ended (see.clauses 𝓤 H A at-mem run) tt (to-see h (entry i) .0 .3) tt g)))) (id⊢ 𝓤 _) $ await ! tt $ pick ! (λ g.
             split ! $ move ! (1 ∷ []) $ use1 W (raw (fact 𝓤 (Saw h (entry i) g))) (saw-of h (entry i) g) $ heard ! (Saw h (entry i) g) (λ saw.
@@ -892,19 +896,19 @@ module _ {M : Type 1} (𝓤 : URA M) (H : Heap 𝓤) (A : Atoms 𝓤) (W : Given
             (λ other. forget ! 36 refl $
             use0 W (raw (Enter 𝓤 H A at-mem run .pre (to-enter h (entry i)))) (goes-enter h (entry i) lies fits (is-other (entry i .kind) other)) $
             calls-at-last ! fm (Enter 𝓤 H A at-mem run) known (to-enter h (entry i))
-            (and-then ! (load ! (from ! (fld ! refl (stop !))) (look-in ! 17 (sub ! 1 refl (whole !)))) (and-then ! (load ! (from ! (fld ! refl (stop !))) (look-in ! 21 (sub ! 0 refl (whole !)))) (no-more !))) (λ w.
+            (and-then ! (load ! (from ! (fld ! refl (stop !))) (look-in ! 15 (sub ! 1 refl (whole !)))) (and-then ! (load ! (from ! (fld ! refl (stop !))) (look-in ! 21 (sub ! 0 refl (whole !)))) (no-more !))) (λ w.
             use1 W (later (some (λ (c : Ticked). (‵ ftrue ⊛ ‵ (N.the-row .own c (w ∷ []))) ⊛ raw (ensured 𝓤 H A enter.ended (enter.clauses 𝓤 H A at-mem run) tt (to-enter h (entry i) .0 .3) tt c)))) (id⊢ 𝓤 _) $ await ! tt $ pick ! (λ c.
             split ! $ move ! (1 ∷ []) $ use1 W (raw (fact 𝓤 (Entered h (entry i) c))) (entered-of h (entry i) c) $ heard ! (Entered h (entry i) c) (λ told.
             split ! $ drop ! $ peeks ! N.the-row (Is N.the-row) (shows 𝓤 H A N.the-row) c (w ∷ []) (λ is.
-            land-last ! (from ! (stop !)) (store ! 17 refl (ticked-typed 𝓤 H A W c w is)) $ drop ! $
-            rewrite ! 16 (λ (u : Val). ‵ (fat fullShare N′.mir l₆ 0 u)) (ticked-apart c w is .whole) refl $ forget ! 20 refl $
+            land-last ! (from ! (stop !)) (store ! 15 refl (ticked-typed 𝓤 H A W c w is)) $ drop ! $
+            rewrite ! 14 (λ (u : Val). ‵ (fat fullShare N′.mir l₅ 0 u)) (ticked-apart c w is .whole) refl $ forget ! 20 refl $
             by ! (decides (c .answer) (ticked-to h lies (ticked-apart c w is .opened)) zs (ticked-apart c w is .fits) (ticked-lies h lies (ticked-apart c w is .opened))
             (told .entered (h .laid .board) zs (entry i .row) (entry i .column) (sofar .kept) (sofar .room))))))))
 
       -- ---- The loop: k entries are left
 
       abbrev Going : At → List (Item 𝓤)
-      Going σ = Idle (σ .held) 0 (σ .count) (σ .bytes)
+      Going σ = Idle d (σ .held) 0 (σ .count) (σ .bytes)
 
       abbrev Facts : ℕ → At → Type 0
       Facts k σ = (σ .count + k ≡ m) × Lies (σ .held) × SoFar g₀ ys ms (σ .count) (game (σ .held)) (σ .bytes)
@@ -927,9 +931,9 @@ module _ {M : Type 1} (𝓤 : URA M) (H : Heap 𝓤) (A : Atoms 𝓤) (W : Given
       ends σ X f =
           qed W (Going σ) ∵ exec ! C Λ En body.turn-1 (anyQ (afterTurn 𝓤 H X Left)) $
           assigns ! (of-opd ! (load ! (from ! (fld ! refl (stop !))) (look-in ! 10 (sub ! 1 refl (whole !))))) (from ! (stop !)) (init ! 34 refl (tt, record { fits = room′ .0 })) $
-          assigns ! (bin ! (load ! (from ! (stop !)) (look ! 18 refl)) (load ! (from ! (stop !)) (look ! 34 refl)) tt) (from ! (stop !)) (init ! 36 refl (tt, tt)) $
+          assigns ! (bin ! (load ! (from ! (stop !)) (look ! 16 refl)) (load ! (from ! (stop !)) (look ! 34 refl)) tt) (from ! (stop !)) (init ! 36 refl (tt, tt)) $
           rewrite ! 36 (λ (u : Bool). ‵ (fat fullShare tyBool l₁₆ 0 (vbool u))) (le-ltb (σ .count) m (omega (arith, f .0))) refl $
-          leaves-loop ! (load ! (from ! (stop !)) (look ! 36 refl)) $ forget ! 34 refl $ forget ! 36 refl $ move ! (3 ∷ []) $ drop ! $
+          leaves-loop ! (load ! (from ! (stop !)) (look ! 36 refl)) $ forget ! 18 refl $ forget ! 34 refl $ forget ! 36 refl $ move ! (3 ∷ []) $ drop ! $
           by ! (leaves fm whole-game (σ .count) 0 (σ .held) (σ .bytes) (omega (arith, f .0, room′ .0)) (omega arith) (f .1) (replays-all g₀ ys ms ok (f .2) (omega (arith, f .0))) (f .2 .long))
 
       -- a turn from the invariant at k leaves the loop, or ends in the invariant below k
@@ -937,27 +941,18 @@ module _ {M : Type 1} (𝓤 : URA M) (H : Heap 𝓤) (A : Atoms 𝓤) (W : Given
       turn-at zero σ f = ends σ (Below zero) f
       turn-at (suc k) σ f =
           let more : σ .count < m = omega (arith, f .0) in
-          reads room′ (σ .count) (σ .held) (σ .bytes) (afterTurn 𝓤 H (Below (suc k)) Left) more (λ fits.
+          reads room′ d (σ .count) (σ .held) (σ .bytes) (afterTurn 𝓤 H (Below (suc k)) Left) more (λ fits.
           plays (σ .count) (σ .held) (f .1) (σ .bytes) (Below (suc k)) more (f .2) (λ h zs lies sofar. below k (record { count = suc (σ .count); held = h; bytes = zs }) (omega (arith, f .0), lies, sofar)) fits)
 
       turns : (k : ℕ) → ent 𝓤 (Inv k) (Wp 𝓤 H C Λ En body.turn-1 (afterTurn 𝓤 H (Below k) Left))
       turns k = exE 𝓤 (λ (σ : At). guard 𝓤 (Facts k σ) (⋆ 𝓤 H A (Going σ))) (λ σ. guardE 𝓤 (Facts k σ) (⋆ 𝓤 H A (Going σ)) (λ f. turn-at k σ f))
 
-      loops : (h : Held) → Lies h → game h ≡ g₀ → ent 𝓤 (⋆ 𝓤 H A (Idle h 0 0 ys)) (Wp 𝓤 H C Λ En (loop body.turn-1) Left)
+      loops : (h : Held) → Lies h → game h ≡ g₀ → ent 𝓤 (⋆ 𝓤 H A (Idle d h 0 0 ys)) (Wp 𝓤 H C Λ En (loop body.turn-1) Left)
       loops h lies same =
           via 𝓤 (Inv m) (inv m (record { count = 0; held = h; bytes = ys }) (omega arith, lies, subst (λ (g : Game). SoFar g₀ ys ms 0 g ys) (sym same) (so-far-none g₀ ys ms ok)))
           (loop-rule 𝓤 H (W .laws) 𝓣 _<_ (Nat·lt-wfRel .wf) En body.turn-1 Left Inv turns m)
 
-    -- ---- The table is made, and the game is taken apart
-
-    abbrev to-tabled : Tabled 𝓤 H A at-mem run .Ghost
-    to-tabled = ((tt, tt, tt, tt, tt), tt)
-
-    goes-tabled : ent 𝓤 (emp 𝓤) (Tabled 𝓤 H A at-mem run .pre to-tabled)
-    goes-tabled = qed W [] ∵ nothing ! $ nothing ! $ nothing ! $ join ! $ done !
-
-    tabled-of : (ns : List ℕ) → ent 𝓤 (ensured 𝓤 H A tabled.ended (tabled.clauses 𝓤 H A at-mem run) tt tt tt ns) (fact 𝓤 (Numbers ns))
-    tabled-of ns = exE 𝓤 _ (λ ws. snd∗ 𝓤 (sem 𝓤 H A (lasts tabled.ended tt tt ws)) (fact 𝓤 (Numbers ns)))
+    -- ---- The game is taken apart, and the table is made
 
     abbrev to-unlay : Unlay 𝓤 H A at-mem run .Ghost
     to-unlay = ((tt, tt, tt, (g₀ .board, tt), (w₀ ∷ [], tt)), tt)
@@ -979,6 +974,15 @@ module _ {M : Type 1} (𝓤 : URA M) (H : Heap 𝓤) (A : Atoms 𝓤) (W : Given
     clock-told : (c : Clock) → ent 𝓤 (ensured 𝓤 H A clocks.ended (clocks.clauses 𝓤 H A at-mem run) tt (g₀, tt) tt c) (fact 𝓤 (c ≡ clockOf g₀))
     clock-told c = exE 𝓤 _ (λ ws. snd∗ 𝓤 (sem 𝓤 H A (lasts clocks.ended tt (g₀, tt) ws)) (fact 𝓤 (c ≡ clockOf g₀)))
 
+    abbrev to-tabled : Tabled 𝓤 H A at-mem run .Ghost
+    to-tabled = ((tt, tt, tt, tt, tt), tt)
+
+    goes-tabled : ent 𝓤 (emp 𝓤) (Tabled 𝓤 H A at-mem run .pre to-tabled)
+    goes-tabled = qed W [] ∵ nothing ! $ nothing ! $ nothing ! $ join ! $ done !
+
+    tabled-of : (ns : List ℕ) → ent 𝓤 (ensured 𝓤 H A tabled.ended (tabled.clauses 𝓤 H A at-mem run) tt tt tt ns) (fact 𝓤 (Numbers ns))
+    tabled-of ns = exE 𝓤 _ (λ ws. snd∗ 𝓤 (sem 𝓤 H A (lasts tabled.ended tt tt ws)) (fact 𝓤 (Numbers ns)))
+
     -- ---- The state is judged
 
     abbrev to-judge : Judge 𝓤 H A at-mem run .Ghost
@@ -999,60 +1003,61 @@ module _ {M : Type 1} (𝓤 : URA M) (H : Heap 𝓤) (A : Atoms 𝓤) (W : Given
     unfolding number
     not-true = replays-damaged g₀ ys ms
 
-    abbrev Begins : Fml → Fml → Fml → Fml → List (Item 𝓤)
-    Begins f₄ f₅ f₆ f₇ = ‵ (lent ys n) ∷ ‵ (flft κ q) ∷ ‵ (flft κ′ q′) ∷ ‵ seen ∷ running (fat fullShare G′.mir l₁ 0 v₀) f₄ f₅ f₆ f₇ (froom E′.mir l₈ 0) (froom S′.mir l₉ 0) (froom T′.mir l₁₀ 0)
+    abbrev Begins : Fml → Fml → Fml → List (Item 𝓤)
+    Begins f₄ f₅ f₆ = ‵ (lent ys n) ∷ ‵ (flft κ q) ∷ ‵ (flft κ′ q′) ∷ ‵ seen ∷ running (fat fullShare G′.mir l₁ 0 v₀) f₄ f₅ f₆ (froom tableTy l₇ 0) (froom E′.mir l₈ 0) (froom S′.mir l₉ 0) (froom T′.mir l₁₀ 0)
 
     module _ (fm : FmC 𝓤 H (W .laws) C) (judges : Triple 𝓤 (C #judge) (Judge 𝓤 H A at-mem run)) (making : Triple 𝓤 (C #tabled) (Tabled 𝓤 H A at-mem run)) (unlays : Triple 𝓤 (C #unlay) (Unlay 𝓤 H A at-mem run)) (reading : Triple 𝓤 (C #clocks) (Clocks 𝓤 H A at-mem run))
         (whole-game : Triple 𝓤 (C #makes) (Makes 𝓤 H A at-mem run)) (sees : Triple 𝓤 (C #see) (See 𝓤 H A at-mem run)) (tests : Triple 𝓤 (C #test) (Test 𝓤 H A at-mem run)) (settles : Triple 𝓤 (C #settle) (Settle 𝓤 H A at-mem run)) (lays : Triple 𝓤 (C #lay) (Lay 𝓤 H A at-mem run))
         (shifts : Triple 𝓤 (C #shift) (Shift 𝓤 H A at-mem run)) (known : Triple 𝓤 (C #enter) (Enter 𝓤 H A at-mem run)) (is₀ : GameIs g₀ v₀) (room : Room u8 n) (room′ : Room E.the-row m) where
       -- judged with the parts in their locals
-      judged-first : (h : Held) → Lies h → game h ≡ g₀ → ent 𝓤 (⋆ 𝓤 H A (Begins (table-at h) (lies-at h) (now 3 h) (froom (tyInt w64) l₇ 0))) (Wp 𝓤 H C Λ En body.t-6 Leaves)
+      judged-first : (h : Held) → Lies h → game h ≡ g₀ → ent 𝓤 (⋆ 𝓤 H A (Begins (lies-at h) (now 3 h) (froom (tyInt w64) l₆ 0))) (Wp 𝓤 H C Λ En body.t-4 Leaves)
       judged-first h lies same =
-          qed W (Begins (table-at h) (lies-at h) (now 3 h) (froom (tyInt w64) l₇ 0)) ∵ exec ! C Λ En body.t-6 (atRet En Post) $
-          assigns ! (of-opd ! (lit ! tt)) (from ! (stop !)) (init ! 18 refl (tt, record { fits = omega arith })) $
-          assigns ! (of-opd ! (load ! (from ! (fld ! refl (stop !))) (look-in ! 8 (sub ! 1 refl (whole !))))) (from ! (stop !)) (init ! 32 refl (tt, record { fits = room .0 })) $
+          qed W (Begins (lies-at h) (now 3 h) (froom (tyInt w64) l₆ 0)) ∵ exec ! C Λ En body.t-4 (atRet En Post) $
+          assigns ! (of-opd ! (lit ! tt)) (from ! (stop !)) (init ! 16 refl (tt, record { fits = omega arith })) $
+          assigns ! (of-opd ! (load ! (from ! (fld ! refl (stop !))) (look-in ! 8 (sub ! 1 refl (whole !))))) (from ! (stop !)) (init ! 30 refl (tt, record { fits = room .0 })) $
           use0 W (raw (Judge 𝓤 H A at-mem run .pre to-judge)) (goes-judge is₀ (room .0)) $
-          calls-at ! fm (Judge 𝓤 H A at-mem run) judges to-judge (and-then ! (load ! (from ! (stop !)) (look ! 7 refl)) (and-then ! (load ! (from ! (stop !)) (look ! 33 refl)) (no-more !))) (λ w.
+          calls-at ! fm (Judge 𝓤 H A at-mem run) judges to-judge (and-then ! (load ! (from ! (stop !)) (look ! 7 refl)) (and-then ! (load ! (from ! (stop !)) (look ! 31 refl)) (no-more !))) (λ w.
           use1 W (later (some (λ (r : Bool). (‵ ftrue ⊛ ‵ (bool .own r (w ∷ []))) ⊛ raw (ensured 𝓤 H A judge.ended (judge.clauses 𝓤 H A at-mem run) tt (g₀, (n, tt)) tt r)))) (id⊢ 𝓤 _) $ await ! tt $ pick ! (λ r.
           split ! $ move ! (1 ∷ []) $ use1 W (raw (fact 𝓤 (r ≡ true → Ok)) ⊛ raw (fact 𝓤 (Ok → r ≡ true))) (judged-of r) $ split ! $ heard ! (r ≡ true → Ok) (λ sound. heard ! (Ok → r ≡ true) (λ complete.
           split ! $ drop ! $ peeks ! bool (Is bool) (shows 𝓤 H A bool) r (w ∷ []) (λ told.
-          land ! (from ! (stop !)) (init ! 31 refl (bool-lawful 𝓤 H A W .typed r _ told .0)) $ drop ! $ rewrite ! 30 (λ (u : Val). ‵ (fat fullShare tyBool l₁₃ 0 u)) (ap only told) refl $
-          first ! $ branches ! (load ! (from ! (stop !)) (look ! 30 refl))
-          -- the loop begins
-          (λ good. assigns ! (of-opd ! (lit ! tt)) (from ! (fld ! refl (stop !))) (store-in ! 16 (sub ! 0 refl (whole !)) (tt, record { fits = omega arith })) $
-          forget ! 6 refl $ forget ! 30 refl $ forget ! 32 refl $ by ! (loops fm whole-game sees tests settles lays shifts known (sound (holds r good)) room room′ h lies same))
-          -- not a true one: nothing is done
-          (λ bad. skips ! $ forget ! 6 refl $ forget ! 30 refl $ forget ! 32 refl $ move ! (3 ∷ []) $ drop ! $
-          by ! (leaves fm whole-game 0 3 h ys (omega arith) (omega arith) lies (subst (λ (g : Game). Good (record { entries = 0; answer = 3; game = g }) ys) (sym same) (not-true (λ ok. is-false r bad (complete ok)))) refl)))))))
-
-      begins : ent 𝓤 (⋆ 𝓤 H A (Begins (froom tableTy l₄ 0) (froom L′.mir l₅ 0) (froom N′.mir l₆ 0) (froom (tyInt w64) l₇ 0))) (Wp 𝓤 H C Λ En body.t-1 Leaves)
-      begins =
-          qed W (Begins (froom tableTy l₄ 0) (froom L′.mir l₅ 0) (froom N′.mir l₆ 0) (froom (tyInt w64) l₇ 0)) ∵ exec ! C Λ En body.t-1 (atRet En Post) $
+          land ! (from ! (stop !)) (init ! 29 refl (bool-lawful 𝓤 H A W .typed r _ told .0)) $ drop ! $ rewrite ! 28 (λ (u : Val). ‵ (fat fullShare tyBool l₁₂ 0 u)) (ap only told) refl $
+          first ! $ branches ! (load ! (from ! (stop !)) (look ! 28 refl))
+          -- the table is made, and the loop begins
+          (λ good. assigns ! (of-opd ! (lit ! tt)) (from ! (fld ! refl (stop !))) (store-in ! 14 (sub ! 0 refl (whole !)) (tt, record { fits = omega arith })) $
+          forget ! 6 refl $ forget ! 28 refl $ forget ! 30 refl $
           use0 W (raw (Tabled 𝓤 H A at-mem run .pre to-tabled)) goes-tabled $
           calls-at ! fm (Tabled 𝓤 H A at-mem run) making to-tabled (no-more !) (λ u.
           use1 W (later (some (λ (ns : List ℕ). (‵ ftrue ⊛ ‵ (Table .own ns (u ∷ []))) ⊛ raw (ensured 𝓤 H A tabled.ended (tabled.clauses 𝓤 H A at-mem run) tt tt tt ns)))) (id⊢ 𝓤 _) $ await ! tt $ pick ! (λ ns.
           split ! $ move ! (1 ∷ []) $ use1 W (raw (fact 𝓤 (Numbers ns))) (tabled-of ns) $ heard ! (Numbers ns) (λ all.
-          split ! $ drop ! $ peeks ! Table (Is Table) (shows 𝓤 H A Table) ns (u ∷ []) (λ is₀′.
-          land ! (from ! (stop !)) (init ! 27 refl (table-typed 𝓤 H A W ns u is₀′)) $ drop ! $
-          assigns ! (of-opd ! (load ! (from ! (stop !)) (look ! 26 refl))) (from ! (stop !)) (init ! 12 refl (table-typed 𝓤 H A W ns u is₀′)) $ forget ! 26 refl $
+          split ! $ drop ! $ peeks ! Table (Is Table) (shows 𝓤 H A Table) ns (u ∷ []) (λ is.
+          land ! (from ! (stop !)) (init ! 33 refl (table-typed 𝓤 H A W ns u is)) $ drop ! $
+          assigns ! (of-opd ! (load ! (from ! (stop !)) (look ! 32 refl))) (from ! (stop !)) (init ! 18 refl (table-typed 𝓤 H A W ns u is)) $ forget ! 32 refl $
+          by ! (loops fm whole-game sees tests settles lays shifts known (sound (holds r good)) room room′ (record { numbers = ns; table = u; is = is; whole = all }) h lies same))))))
+          -- not a true one: nothing is done
+          (λ bad. skips ! $ forget ! 6 refl $ forget ! 28 refl $ forget ! 30 refl $ move ! (3 ∷ []) $ drop ! $
+          by ! (leaves fm whole-game 0 3 h ys (omega arith) (omega arith) lies (subst (λ (g : Game). Good (record { entries = 0; answer = 3; game = g }) ys) (sym same) (not-true (λ ok. is-false r bad (complete ok)))) refl)))))))
+
+      begins : ent 𝓤 (⋆ 𝓤 H A (Begins (froom L′.mir l₄ 0) (froom N′.mir l₅ 0) (froom (tyInt w64) l₆ 0))) (Wp 𝓤 H C Λ En body.t-1 Leaves)
+      begins =
+          qed W (Begins (froom L′.mir l₄ 0) (froom N′.mir l₅ 0) (froom (tyInt w64) l₆ 0)) ∵ exec ! C Λ En body.t-1 (atRet En Post) $
           use0 W (raw (Unlay 𝓤 H A at-mem run .pre to-unlay)) (goes-unlay (board-is g₀ w₀ rest₀ is₀)) $
           calls-at ! fm (Unlay 𝓤 H A at-mem run) unlays to-unlay (and-then ! (load ! (from ! (fld ! refl (stop !))) (look-in ! 7 (sub ! 0 refl (whole !)))) (no-more !)) (λ w₁.
           use1 W (later (some (λ (l : Laid). (‵ ftrue ⊛ ‵ (L.the-row .own l (w₁ ∷ []))) ⊛ raw (ensured 𝓤 H A unlay.ended (unlay.clauses 𝓤 H A at-mem run) tt (g₀ .board, tt) tt l)))) (id⊢ 𝓤 _) $ await ! tt $ pick ! (λ l.
           split ! $ move ! (1 ∷ []) $ use1 W (raw (fact 𝓤 (l .board ≡ g₀ .board))) (unlaid-of l) $ heard ! (l .board ≡ g₀ .board) (λ same.
           split ! $ drop ! $ peeks ! L.the-row (Is L.the-row) (shows 𝓤 H A L.the-row) l (w₁ ∷ []) (λ is.
-          land ! (from ! (stop !)) (init ! 15 refl (laid-typed 𝓤 H A W l w₁ is)) $ drop ! $
-          rewrite ! 14 (λ (u : Val). ‵ (fat fullShare L′.mir l₅ 0 u)) (laid-apart l w₁ is .whole) refl $
+          land ! (from ! (stop !)) (init ! 13 refl (laid-typed 𝓤 H A W l w₁ is)) $ drop ! $
+          rewrite ! 12 (λ (u : Val). ‵ (fat fullShare L′.mir l₄ 0 u)) (laid-apart l w₁ is .whole) refl $
           use0 W (raw (Clocks 𝓤 H A at-mem run .pre to-clocks)) (goes-clocks is₀) $
           calls-at ! fm (Clocks 𝓤 H A at-mem run) reading to-clocks (and-then ! (load ! (from ! (stop !)) (look ! 7 refl)) (no-more !)) (λ w₂.
           use1 W (later (some (λ (c : Clock). (‵ ftrue ⊛ ‵ (K.the-row .own c (w₂ ∷ []))) ⊛ raw (ensured 𝓤 H A clocks.ended (clocks.clauses 𝓤 H A at-mem run) tt (g₀, tt) tt c)))) (id⊢ 𝓤 _) $ await ! tt $ pick ! (λ c.
           split ! $ move ! (1 ∷ []) $ use1 W (raw (fact 𝓤 (c ≡ clockOf g₀))) (clock-told c) $ heard ! (c ≡ clockOf g₀) (λ read.
           split ! $ drop ! $ peeks ! K.the-row (Is K.the-row) (shows 𝓤 H A K.the-row) c (w₂ ∷ []) (λ is₂.
-          land ! (from ! (stop !)) (init ! 29 refl (clock-typed 𝓤 H A W c w₂ is₂)) $ drop ! $
-          rewrite ! 28 (λ (u : Val). ‵ (fat fullShare K′.mir l₁₂ 0 u)) (clock-apart c w₂ is₂ .whole) refl $
-          assigns ! (agg ! (and-then ! (lit ! tt) (and-then ! (load ! (from ! (stop !)) (look ! 28 refl)) (no-more !)))) (from ! (stop !))
-          (init ! 16 refl (ticked-typed 𝓤 H A W (record { answer = 3; clock = c }) (tickedVal 3 (clockVal c (clock-apart c w₂ is₂ .rest))) (ticked-is 3 c (clockVal c (clock-apart c w₂ is₂ .rest)) (omega arith) (clock-apart c w₂ is₂ .is)))) $
-          forget ! 28 refl $
-          by ! (judged-first (held-of ns u (laid-apart l w₁ is) (clock-apart c w₂ is₂)) (held-lies ns u (laid-apart l w₁ is) (clock-apart c w₂ is₂) is₀′ all) (game-whole g₀ (l .board) c same read))))))))))))))
+          land ! (from ! (stop !)) (init ! 27 refl (clock-typed 𝓤 H A W c w₂ is₂)) $ drop ! $
+          rewrite ! 26 (λ (u : Val). ‵ (fat fullShare K′.mir l₁₁ 0 u)) (clock-apart c w₂ is₂ .whole) refl $
+          assigns ! (agg ! (and-then ! (lit ! tt) (and-then ! (load ! (from ! (stop !)) (look ! 26 refl)) (no-more !)))) (from ! (stop !))
+          (init ! 14 refl (ticked-typed 𝓤 H A W (record { answer = 3; clock = c }) (tickedVal 3 (clockVal c (clock-apart c w₂ is₂ .rest))) (ticked-is 3 c (clockVal c (clock-apart c w₂ is₂ .rest)) (omega arith) (clock-apart c w₂ is₂ .is)))) $
+          forget ! 26 refl $
+          by ! (judged-first (held-of (laid-apart l w₁ is) (clock-apart c w₂ is₂)) (held-lies (laid-apart l w₁ is) (clock-apart c w₂ is₂)) (game-whole g₀ (l .board) c same read))))))))))
 
   module _ (𝓣 : Tables 𝓤 H) where
     walk : FmC 𝓤 H (W .laws) (𝓣 .C) → Triple 𝓤 (𝓣 .C #judge) (Judge 𝓤 H A at-mem run) → Triple 𝓤 (𝓣 .C #tabled) (Tabled 𝓤 H A at-mem run) → Triple 𝓤 (𝓣 .C #unlay) (Unlay 𝓤 H A at-mem run) → Triple 𝓤 (𝓣 .C #clocks) (Clocks 𝓤 H A at-mem run) → Triple 𝓤 (𝓣 .C #makes) (Makes 𝓤 H A at-mem run) → Triple 𝓤 (𝓣 .C #see) (See 𝓤 H A at-mem run) → Triple 𝓤 (𝓣 .C #test) (Test 𝓤 H A at-mem run) → Triple 𝓤 (𝓣 .C #settle) (Settle 𝓤 H A at-mem run) → Triple 𝓤 (𝓣 .C #lay) (Lay 𝓤 H A at-mem run) → Triple 𝓤 (𝓣 .C #shift) (Shift 𝓤 H A at-mem run) → Triple 𝓤 (𝓣 .C #enter) (Enter 𝓤 H A at-mem run)
