@@ -53,9 +53,13 @@ pub record TrueState (g : Game) : Type 0 where
   pub board : TrueBoard (g .board)
   pub game : rules.TrueGame (viewOf g)
 
--- a history of n bytes has room for the records that the state counts
+-- a history of n bytes has room for so many records
+abbrev pub RoomFor : ℕ → ℕ → Type 0
+RoomFor records n = records ≤ n / recordBytes
+
+-- and for those that the state counts
 unfoldable pub RoomIn : Game → ℕ → Type 0
-RoomIn g n = g .records ≤ n / recordBytes
+RoomIn g n = RoomFor (g .records) n
 
 -- the state of a game in which nothing has happened yet
 unfoldable pub freshState : ℕ → ℕ → ℕ → Game

@@ -13,9 +13,7 @@ use points::stones::BLACK;
 use points::stones::WHITE;
 ghost use mathlib.Core.Bool.{true};
 ghost use mathlib.Core.Path.{_≡_};
-ghost use Prim.Native.Nat.{_≤_, _/_};
-ghost use Rattle.rules.specs.Sizes.{recordBytes};
-ghost use Rattle.game.specs.View.{TrueState, RoomIn};
+ghost use Rattle.game.specs.View.{TrueState, RoomFor, RoomIn};
 ghost use Rattle.game.specs.Judge.{Decides, InRange, Summed, Untouched};
 
 // Flags, passes and handicap in range, and the ko point none or below the area.
@@ -102,7 +100,7 @@ pub fn judge_state(game: Game) -> bool
 
 // A history of this many bytes has room for so many records.
 pub fn has_room(records: usize, length: usize) -> bool
-    ensures { λ r. ⌜ Decides r (records ≤ length / recordBytes) ⌝ }
+    ensures { λ r. ⌜ Decides r (RoomFor records length) ⌝ }
 {
     records <= length / RECORD_BYTES
 }

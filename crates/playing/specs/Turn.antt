@@ -3,9 +3,9 @@ use mathlib.Core.Path.{_≡_}
 use mathlib.Core.List.{List}
 use mathlib.Core.Logic.{_≢_}
 use mathlib.Core.Bool.{Bool, true, false, cond}
-use Prim.Native.Nat.{ℕ, _≤_, _<_, _/_}
+use Prim.Native.Nat.{ℕ, _<_}
 use lib.Dec.{eqb}
-use Rattle.rules.specs.Sizes.{maxStones, recordBytes}
+use Rattle.rules.specs.Sizes.{maxStones}
 use Rattle.rules.specs.Points.{index}
 use Rattle.rules.specs.Records.{recordOf, full}
 use Rattle.rules.specs.Answers.{Answer, number, accepts, refuse, _then_, GamePaused, SuperKo, MoveLimit, HistoryFull}
@@ -20,7 +20,7 @@ use Rattle.looking.specs.Seen.{Sees}
 use Rattle.game.specs.declared.state.Game.{Game}
 use Rattle.game.specs.declared.clock.Clock.{Clock}
 use Rattle.game.specs.Clock.{gameOf}
-use Rattle.game.specs.View.{turnOf, viewOf, TrueState, RoomIn}
+use Rattle.game.specs.View.{turnOf, viewOf, TrueState, RoomFor, RoomIn}
 use Rattle.checking.specs.declared.superko.Told.{Told}
 use Rattle.checking.specs.Told.{known, undecided}
 use Rattle.checking.specs.Asking.{ToldAt}
@@ -62,7 +62,7 @@ pub record Ready (s : Sight) (k : Clock) (n : ℕ) : Type 0 where
   pub packing : Packing (s .colours)
   pub colours : List ℕ
   pub its : recordBy (s .hash) (s .colours) ≡ recordOf colours
-  pub room : k .records ≤ n / recordBytes
+  pub room : RoomFor (k .records) n
 
 -- the last tests, where the board has these colours, and it is known whether the one that the stone leaves is recorded
 pub record Finished (s : Sight) (k : Clock) (cols bytes : List ℕ) (again : Bool) (turn : Turn) (bytes′ : List ℕ) : Type 0 where
