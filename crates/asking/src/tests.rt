@@ -1,11 +1,13 @@
 // What is asked of a point for the player to move: the tests of the crate's game.rs that need no history, each by itself. No stone is
 // laid on another, so where one stands each answers no.
+use board::judge::judged;
 use checking::point::is_ko_point;
 use checking::spot::Spot;
 use checking::spot::spot_of;
 use eyes::eye::is_eye;
 use game::calls::player_of;
-use game::judge::judge_state;
+use game::clock::clock_of;
+use game::judge::numbers_fit;
 use game::state::Game;
 use legality::near::Near;
 use legality::near::is_ko;
@@ -16,6 +18,7 @@ use points::answers::ACCEPTED;
 use points::answers::DAMAGED;
 use points::answers::OFF_BOARD;
 use points::sizes::MAX_AREA;
+use points::stones::EMPTY;
 use queries::goban::TestAnswer;
 ghost use mathlib.Core.Path.{_≡_};
 ghost use lib.ListN.{length};
@@ -59,14 +62,17 @@ fn holds(
 fn asked(game: Game, row: u8, column: u8, test: Test) -> TestAnswer
     ensures { λ r. ⌜ Tested (TrueState game) (offBoard (viewOf game) row column) (testedAt (viewOf game) row column test) r ⌝ }
 {
-    if !judge_state(game) {
+    let found = judged(game.board);
+    let clock = clock_of(game);
+    if !numbers_fit(found, game.board.height, game.board.width, clock) {
         return TestAnswer {
             answer: DAMAGED,
             holds: false,
         };
     }
-    let sight = look_at(game.board, row, column);
-    let spot = spot_of(&sight.colours, sight.height, sight.width, row, column);
+    let mut colours = [EMPTY; MAX_AREA];
+    let sight = look_at(game.board, &mut colours, 0, row, column);
+    let spot = spot_of(&colours, sight.height, sight.width, row, column);
     match spot {
         Spot::Off => TestAnswer {
             answer: OFF_BOARD,
@@ -80,7 +86,7 @@ fn asked(game: Game, row: u8, column: u8, test: Test) -> TestAnswer
             let near = sight.near;
             let yes = holds(
                 near,
-                &sight.colours,
+                &colours,
                 sight.height,
                 sight.width,
                 point,

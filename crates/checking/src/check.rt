@@ -1,6 +1,8 @@
 // The check of a point, by the names of the crate's game.rs. It lays no stone, so no pause is asked for, as in the crate.
 use crate::point::point_answer;
-use game::judge::judge_with;
+use board::judge::judged;
+use game::clock::clock_of;
+use game::judge::numbers_fit_with;
 use game::state::Game;
 use points::answers::BAD_FLAGS;
 use points::answers::DAMAGED;
@@ -14,7 +16,15 @@ ghost use Rattle.checking.specs.Promise.{Checked};
 pub fn check_point_by(game: Game, history: &[u8], flags: u8, row: u8, column: u8) -> u8
     ensures { λ r. ⌜ Checked (TrueState game × RoomIn game (length (now (history .entry)))) (checkAnswer (viewOf game) (now (history .entry)) flags row column) r ⌝ }
 {
-    if !judge_with(game, history.len()) {
+    let found = judged(game.board);
+    let clock = clock_of(game);
+    if !numbers_fit_with(
+        found,
+        game.board.height,
+        game.board.width,
+        clock,
+        history.len(),
+    ) {
         return DAMAGED;
     }
     if MAX_FLAGS < flags {
@@ -27,7 +37,15 @@ pub fn check_point_by(game: Game, history: &[u8], flags: u8, row: u8, column: u8
 pub fn check_point(game: Game, history: &[u8], row: u8, column: u8) -> u8
     ensures { λ r. ⌜ Checked (TrueState game × RoomIn game (length (now (history .entry)))) (checkAnswer (viewOf game) (now (history .entry)) (game .flags) row column) r ⌝ }
 {
-    if !judge_with(game, history.len()) {
+    let found = judged(game.board);
+    let clock = clock_of(game);
+    if !numbers_fit_with(
+        found,
+        game.board.height,
+        game.board.width,
+        clock,
+        history.len(),
+    ) {
         return DAMAGED;
     }
     point_answer(game, history, game.flags, row, column)

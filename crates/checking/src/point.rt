@@ -18,6 +18,7 @@ use points::answers::OFF_BOARD;
 use points::answers::POINT_NOT_EMPTY;
 use points::answers::SUPER_KO;
 use points::sizes::MAX_AREA;
+use points::stones::EMPTY;
 ghost use mathlib.Core.Path.{_≡_};
 ghost use lib.ListN.{length};
 ghost use Rattle.rules.specs.Sizes.{maxArea};
@@ -83,16 +84,24 @@ pub fn told_of(
 }
 
 // The same of a row and a column, by what is seen of a board there: for every true board that looks so.
-pub fn told_by(sight: Sight, clock: Clock, flags: u8, row: u8, column: u8) -> Told
-    ensures { λ r. ⌜ ((b : Board) → TrueBoard b → Sees b row column sight → ToldAt (gameOf b clock) flags row column r) ⌝ }
+pub fn told_by(
+    sight: Sight,
+    colours: &[u8; MAX_AREA],
+    clock: Clock,
+    flags: u8,
+    row: u8,
+    column: u8,
+) -> Told
+    requires { ⌜ length (now colours) ≡ maxArea ⌝ }
+    ensures { λ r. ⌜ ((b : Board) → TrueBoard b → Sees b row column (now (colours .entry)) sight → ToldAt (gameOf b clock) flags row column r) ⌝ }
 {
-    let spot = spot_of(&sight.colours, sight.height, sight.width, row, column);
+    let spot = spot_of(colours, sight.height, sight.width, row, column);
     let near = sight.near;
     let mover = player_of(clock.turn);
     told_of(
         spot,
         near,
-        &sight.colours,
+        colours,
         sight.height,
         sight.width,
         mover,
@@ -107,9 +116,10 @@ pub fn point_answer(game: Game, history: &[u8], flags: u8, row: u8, column: u8) 
     requires { ⌜ TrueState game × RoomIn game (length (now history)) ⌝ }
     ensures { λ r. ⌜ r ≡ number (pointAnswer (viewOf game) (now (history .entry)) flags row column) ⌝ }
 {
-    let sight = look_at(game.board, row, column);
+    let mut colours = [EMPTY; MAX_AREA];
+    let sight = look_at(game.board, &mut colours, 0, row, column);
     let clock = clock_of(game);
-    let answer = told_by(sight, clock, flags, row, column);
+    let answer = told_by(sight, &colours, clock, flags, row, column);
     let Told::Answer(number) = answer else {
         return superko_answer(game, history, sight.point);
     };

@@ -11,6 +11,8 @@ use legality::near::will_capture;
 use looking::look::look_at;
 use points::answers::ACCEPTED;
 use points::answers::SUPER_KO;
+use points::sizes::MAX_AREA;
+use points::stones::EMPTY;
 ghost use mathlib.Core.Bool.{not, _&&_};
 ghost use mathlib.Core.Path.{_≡_};
 ghost use lib.ListN.{length};
@@ -78,8 +80,9 @@ pub fn repeats(game: Game, history: &[u8], point: usize) -> bool
         player_of(game.turn),
         game.flags,
     );
+    let mut left = [EMPTY; MAX_AREA];
     // what stands beside a point of it is not asked
-    let left = look_at(laid.board, 0, 0);
-    let bytes = record_by(left.hash, &left.colours);
+    let sight = look_at(laid.board, &mut left, 0, 0, 0);
+    let bytes = record_by(sight.hash, &left);
     is_recorded(history, game.records, &bytes)
 }

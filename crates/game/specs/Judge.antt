@@ -1,13 +1,15 @@
 -- What the judge of a state asks beside the board: numbers in range, sums that hold, and an untouched game where the mark is not set.
 use mathlib.Core.Path.{_≡_}
-use mathlib.Core.Bool.{Bool, true}
+use mathlib.Core.Bool.{Bool, true, cond}
 use mathlib.Core.Option.{none, some}
 use Prim.Native.Nat.{ℕ, _+_, _≤_, _<_}
 use Rattle.rules.specs.Sizes.{maxArea, maxFlags}
 use Rattle.rules.specs.Colours.{black, white}
 use Rattle.rules.specs.Game.{stones}
 use Rattle.board.specs.declared.goban.Board.{Board}
+use Rattle.board.specs.declared.judge.Verdict.{Verdict}
 use Rattle.board.specs.Board.{coloursOf}
+use Rattle.board.specs.True.{TrueBoard}
 use Rattle.game.specs.declared.state.Tally.{Tally}
 use Rattle.game.specs.View.{koOf, outcomeOf}
 
@@ -15,6 +17,13 @@ use Rattle.game.specs.View.{koOf, outcomeOf}
 pub record Decides (r : Bool) (P : Type 0) : Type 0 where
   pub sound : r ≡ true → P
   pub complete : P → r ≡ true
+
+-- what the board's judge promises of what it found
+pub record Judged (b : Board) (found : Verdict) : Type 0 where
+  pub sound : found .good ≡ true → TrueBoard b
+  pub complete : TrueBoard b → found .good ≡ true
+  pub blacks : found .black ≡ cond (found .good) (stones (coloursOf b) black) 0
+  pub whites : found .white ≡ cond (found .good) (stones (coloursOf b) white) 0
 
 -- the stones of each colour on the board
 pub record Counted (b : Board) (on : Tally) : Type 0 where

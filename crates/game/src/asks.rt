@@ -1,10 +1,12 @@
 // What is asked of a game, by the names of the crate's game.rs: size, turn, prisoners, outcome, is_over; and its fields passes,
 // ko_point, handicap, rule.flag_illegal (flags), history.len() (records). Scores are left out: two passes alone give no outcome.
 use crate::calls::player_of;
-use crate::judge::judge_state;
+use crate::clock::clock_of;
+use crate::judge::numbers_fit;
 use crate::state::Game;
 use crate::state::NO_POINT;
 use crate::state::Tally;
+use board::judge::judged;
 use chains::group::index;
 use points::answers::ACCEPTED;
 use points::answers::DAMAGED;
@@ -78,7 +80,9 @@ fn is_over(byte: u8, passes: u8) -> bool
 pub fn facts_of(game: Game) -> Facts
     ensures { λ r. ⌜ Asked game r ⌝ }
 {
-    if !judge_state(game) {
+    let found = judged(game.board);
+    let clock = clock_of(game);
+    if !numbers_fit(found, game.board.height, game.board.width, clock) {
         let nothing = Tally { black: 0, white: 0 };
         let off = Place::Off;
         let open = Outcome::Open;

@@ -1,12 +1,14 @@
 // The legal points of the player to move, in a lent buffer, by the names of the crate's game.rs. The state is judged once, and the
 // board is read once into numbers that are lent to the tests: it is copied only where a capture might bring a recorded board back.
+use board::judge::judged;
 use checking::point::is_ko_point;
 use checking::refusal::told;
 use checking::superko::Told;
 use checking::superko::is_undecided;
 use checking::superko::repeats;
 use game::calls::player_of;
-use game::judge::judge_with;
+use game::clock::clock_of;
+use game::judge::numbers_fit_with;
 use game::state::Game;
 use listing::list::Listed;
 use listing::list::length_refusal;
@@ -133,7 +135,15 @@ fn refusal(height: u8, width: u8, flags: u8, length: usize) -> u8
 pub fn legals_by(game: Game, history: &[u8], flags: u8, buffer: &mut [u16]) -> Listed
     ensures { λ r. ⌜ Filled (TrueState game × RoomIn game (length (now (history .entry)))) (rules.listAnswer (viewOf game) flags (now (buffer .entry))) (rules.legals (viewOf game) (now (history .entry)) flags) (now (buffer .entry)) r (now (buffer .exit)) ⌝ }
 {
-    if !judge_with(game, history.len()) {
+    let found = judged(game.board);
+    let clock = clock_of(game);
+    if !numbers_fit_with(
+        found,
+        game.board.height,
+        game.board.width,
+        clock,
+        history.len(),
+    ) {
         return Listed {
             number: DAMAGED,
             count: 0,

@@ -1,11 +1,13 @@
 -- What a board shows of its points, and what of that stands beside a point.
+use mathlib.Core.Bool.{cond, _&&_}
 use mathlib.Core.List.{List, map}
 use mathlib.Core.Path.{_≡_}
 use Prim.Native.Nat.{ℕ, _≤_, _<_}
+use lib.Dec.{eqb}
 use lib.ListN.{length, getD}
 use Rattle.rules.specs.Sizes.{maxArea, slots}
 use Rattle.rules.specs.Lists.{tabulate}
-use Rattle.rules.specs.Colours.{empty}
+use Rattle.rules.specs.Colours.{empty, at}
 use Rattle.rules.specs.Points.{area, index, neighbours}
 use Rattle.rules.specs.Chain.{size, liberties}
 use Rattle.chains.specs.declared.group.Chain.{Chain}
@@ -63,11 +65,21 @@ pub record Readable (owner slot : ℕ) : Type 0 where
   pub within : slot < slots
   pub owned : owner < slots → slot ≡ owner
 
--- all that a sight tells is the board's
-pub record Sees (b : Board) (r c : ℕ) (s : Sight) : Type 0 where
+-- all that a sight and the colours beside it tell is the board's
+pub record Sees (b : Board) (r c : ℕ) (cols : List ℕ) (s : Sight) : Type 0 where
   pub height : s .height ≡ b .height
   pub width : s .width ≡ b .width
   pub hash : s .hash ≡ b .hash
   pub point : s .point ≡ index (b .width) r c
   pub near : s .near ≡ nearOf (b .height) (b .width) (coloursOf b) (s .point)
-  pub colours : s .colours ≡ onLargest (coloursOf b)
+  pub colours : cols ≡ onLargest (coloursOf b)
+
+-- the first n colours are the board's, and beyond the board nothing stands
+pub record Partly (b : Board) (n : ℕ) (cols : List ℕ) : Type 0 where
+  pub long : length cols ≡ maxArea
+  pub read : (p : ℕ) → p < n → at cols p ≡ at (coloursOf b) p
+  pub rest : (p : ℕ) → area (b .height) (b .width) ≤ p → at cols p ≡ empty
+
+-- how many colours are the board's after a stone that took and lost so many
+unfoldable pub knownAfter : ℕ → ℕ → ℕ
+knownAfter taken lost = cond (eqb taken 0 && eqb lost 0) maxArea 0

@@ -14,12 +14,14 @@ use points::stones::EMPTY;
 use sets::liberties::number_of_liberties;
 ghost use mathlib.Core.Bool.{cond};
 ghost use mathlib.Core.Path.{_≡_};
+ghost use Prim.Native.Nat.{_<_};
 ghost use lib.Dec.{ltb};
-ghost use Rattle.rules.specs.Sizes.{slots};
+ghost use lib.ListN.{length, set};
+ghost use Rattle.rules.specs.Sizes.{maxArea, slots};
 ghost use Rattle.rules.specs.Colours.{empty};
 ghost use Rattle.board.specs.Board.{coloursOf};
 ghost use Rattle.board.specs.True.{TrueBoard};
-ghost use Rattle.looking.specs.Seen.{chainSeen, nothing, seenOf, Counted, Shows, nearIn, Readable, Sees};
+ghost use Rattle.looking.specs.Seen.{chainSeen, nothing, seenOf, Counted, Shows, nearIn, Readable, Sees, Partly, knownAfter};
 
 // Of each point the colour, and the liberties and stones of the chain there, 0 at an empty point.
 pub struct Seen {
@@ -28,7 +30,8 @@ pub struct Seen {
     pub stones: [u16; MAX_AREA],
 }
 
-// What is seen of a board for a stone at a row and a column: all that the tests and the record ask of the board, so that they need no copy of it.
+// What is seen of a board for a stone at a row and a column: with the colours of all points, which are lent beside it, all that the tests and the record
+// ask of the board, so that they need no copy of it.
 pub struct Sight {
     pub height: u8,
     pub width: u8,
@@ -37,8 +40,6 @@ pub struct Sight {
     pub point: usize,
     // what stands beside it
     pub near: Near,
-    // of all points
-    pub colours: [u8; MAX_AREA],
 }
 
 // What is seen of a chain.
@@ -163,11 +164,19 @@ fn shade(owner: usize, colour: u8) -> u8
     EMPTY
 }
 
-// What a true board shows for a stone at a row and a column. Both loops stand here, since a function for each would copy the board once more. The second
+// What a true board shows for a stone at a row and a column, and the colours of all points, of which the first `read` are known: a row of stones that take
+// nothing need not read them again. Both loops stand here, since a function for each would copy the board once more. The second
 // reads a slot for every point and chooses after it: a branch there cannot be foreseen, and costs more.
-pub fn look_at(board: Board, row: u8, column: u8) -> Sight
+pub fn look_at(
+    board: Board,
+    colours: &mut [u8; MAX_AREA],
+    read: usize,
+    row: u8,
+    column: u8,
+) -> Sight
     requires { ⌜ TrueBoard board ⌝ }
-    ensures { λ r. ⌜ Sees board row column r ⌝ }
+    requires { ⌜ Partly board read (now colours) ⌝ }
+    ensures { λ r. ⌜ Sees board row column (now (colours .exit)) r ⌝ }
 {
     let point = two_to_1dim(board.width, row, column);
     let around = neighbours(board.height, board.width, point);
@@ -191,8 +200,7 @@ pub fn look_at(board: Board, row: u8, column: u8) -> Sight
         side += 1;
     }
     let points = area(board.height, board.width);
-    let mut colours = [EMPTY; MAX_AREA];
-    let mut p = 0;
+    let mut p = read;
     while p < points {
         let owner = index(board.owners[p]);
         let slot = readable(owner);
@@ -212,6 +220,22 @@ pub fn look_at(board: Board, row: u8, column: u8) -> Sight
         hash: board.hash,
         point: point,
         near: near,
-        colours: colours,
     }
+}
+
+// The colours once a stone stands on a point, and how many of them are the board's then: all where no stone was removed; else none are relied on.
+pub fn keep(colours: &mut [u8; MAX_AREA], point: usize, colour: u8, taken: u16, lost: u16) -> usize
+    requires { ⌜ length (now colours) ≡ maxArea ⌝ }
+    requires { ⌜ point < maxArea ⌝ }
+    ensures coloured { λ r. ⌜ now (colours .exit) ≡ set (now (colours .entry)) point colour ⌝ }
+    ensures known { λ r. ⌜ r ≡ knownAfter taken lost ⌝ }
+{
+    colours[point] = colour;
+    if taken != 0 {
+        return 0;
+    }
+    if lost != 0 {
+        return 0;
+    }
+    MAX_AREA
 }

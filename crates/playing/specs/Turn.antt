@@ -58,10 +58,10 @@ pub record Tested (g : Game) (bytes : List ℕ) (r c : ℕ) (turn : Turn) (bytes
 -- ---- By what is seen of the board
 
 -- the colours can be recorded, and the history has room for the records that the numbers count
-pub record Ready (s : Sight) (k : Clock) (n : ℕ) : Type 0 where
-  pub packing : Packing (s .colours)
+pub record Ready (s : Sight) (cs : List ℕ) (k : Clock) (n : ℕ) : Type 0 where
+  pub packing : Packing cs
   pub colours : List ℕ
-  pub its : recordBy (s .hash) (s .colours) ≡ recordOf colours
+  pub its : recordBy (s .hash) cs ≡ recordOf colours
   pub room : RoomFor (k .records) n
 
 -- the last tests, where the board has these colours, and it is known whether the one that the stone leaves is recorded
@@ -74,10 +74,10 @@ pub record Finished (s : Sight) (k : Clock) (cols bytes : List ℕ) (again : Boo
   pub noted : turn .answer ≡ 0 → Noted bytes (k .records) cols (turn .records) bytes′
 
 -- board and numbers are a true state with room in a history of n bytes, and this is seen of the board for a stone
-pub record Shown (b : Board) (s : Sight) (k : Clock) (n r c : ℕ) : Type 0 where
+pub record Shown (b : Board) (s : Sight) (cs : List ℕ) (k : Clock) (n r c : ℕ) : Type 0 where
   pub state : TrueState (gameOf b k)
   pub room : RoomIn (gameOf b k) n
-  pub sees : Sees b r c s
+  pub sees : Sees b r c cs s
 
 -- no test without the records refuses the stone, and the records decide
 pub record Undecided (g : Game) (r c : ℕ) : Type 0 where
@@ -93,8 +93,8 @@ pub record FirstTested (g : Game) (bytes : List ℕ) (r c : ℕ) (turn : Turn) (
   pub lent : turn .undecided ≡ true → bytes′ ≡ bytes
 
 -- some row and column where the records decide
-pub record Settling (b : Board) (s : Sight) (k : Clock) (n : ℕ) : Type 0 where
+pub record Settling (b : Board) (s : Sight) (cs : List ℕ) (k : Clock) (n : ℕ) : Type 0 where
   pub row : ℕ
   pub column : ℕ
-  pub shown : Shown b s k n row column
+  pub shown : Shown b s cs k n row column
   pub waits : Undecided (gameOf b k) row column

@@ -1,6 +1,8 @@
 // A handicap: Black stones on the spots of a game in which nothing has happened yet, and White to move.
+use board::judge::judged;
 use game::calls::Answered;
-use game::judge::judge_state;
+use game::clock::clock_of;
+use game::judge::numbers_fit;
 use game::state::Game;
 use game::state::Tally;
 use placing::handicap::lay_handicap;
@@ -18,50 +20,53 @@ ghost use Rattle.game.specs.Promise.{CalledAlone};
 pub fn handicap(game: Game, spots: &[u16]) -> Answered
     ensures { λ r. ⌜ CalledAlone (rules.handicapped (viewOf game) [] (spotsOf (now (spots .entry)))) game (r .answer) (r .game) ⌝ }
 {
-    if !judge_state(game) {
-        return Answered {
-            answer: DAMAGED,
-            game: game,
-        };
+    // held in the answer, and both judges asked here, as for a stone
+    let mut answered = Answered {
+        answer: DAMAGED,
+        game: game,
+    };
+    let found = judged(answered.game.board);
+    let clock = clock_of(answered.game);
+    if !numbers_fit(
+        found,
+        answered.game.board.height,
+        answered.game.board.width,
+        clock,
+    ) {
+        return answered;
     }
-    if game.begun != 0 {
-        return Answered {
-            answer: NOT_AT_START,
-            game: game,
-        };
+    if answered.game.begun != 0 {
+        answered.answer = NOT_AT_START;
+        return answered;
     }
-    let board = game.board;
-    let placed = lay_handicap(board, spots);
+    let placed = lay_handicap(answered.game.board, spots);
     if placed.answer != ACCEPTED {
-        return Answered {
-            answer: placed.answer,
-            game: game,
-        };
+        answered.answer = placed.answer;
+        return answered;
     }
-    let laid = placed.board;
     let count = spots.len() as u16;
-    let held = game.held;
-    let so_far = game.put;
+    let so_far = answered.game.put;
     let put = Tally {
         black: so_far.black + (count as u32),
         white: so_far.white,
     };
+    let held = answered.game.held;
+    let laid = placed.board;
     let after = Game {
         board: laid,
-        flags: game.flags,
+        flags: answered.game.flags,
         turn: WHITE,
-        passes: game.passes,
-        outcome: game.outcome,
+        passes: answered.game.passes,
+        outcome: answered.game.outcome,
         begun: 1,
-        ko: game.ko,
+        ko: answered.game.ko,
         handicap: count,
-        accepted: game.accepted,
+        accepted: answered.game.accepted,
         held: held,
         put: put,
-        records: game.records,
+        records: answered.game.records,
     };
-    Answered {
-        answer: ACCEPTED,
-        game: after,
-    }
+    answered.answer = ACCEPTED;
+    answered.game = after;
+    answered
 }

@@ -5,6 +5,7 @@ use crate::count::ko_number;
 use crate::count::no_room;
 use crate::count::put_after;
 use board::goban::Board;
+use board::judge::judged;
 use checking::point::told_by;
 use checking::superko::is_undecided;
 use checking::superko::known_answer;
@@ -14,8 +15,7 @@ use game::calls::player_of;
 use game::clock::Clock;
 use game::clock::clock_of;
 use game::clock::game_of;
-use game::judge::has_room;
-use game::judge::judge_state;
+use game::judge::numbers_fit_with;
 use game::state::Game;
 use hashing::zobrist::table;
 use history::lent::is_recorded;
@@ -31,7 +31,9 @@ use points::answers::HISTORY_FULL;
 use points::answers::MOVE_LIMIT;
 use points::answers::SUPER_KO;
 use points::coord::Place;
+use points::sizes::MAX_AREA;
 use points::sizes::MAX_STONES;
+use points::stones::EMPTY;
 use points::stones::other;
 ghost use mathlib.Core.List.{List};
 ghost use mathlib.Core.Path.{_≡_};
@@ -86,12 +88,18 @@ fn last_answer(again: bool, accepted: u16, full: bool) -> u8
 
 // The tests by the records and the count, and the record of the present board where they let the stone pass. Whether the board that it leaves is
 // recorded is known.
-fn finished(sight: Sight, clock: Clock, history: &mut [u8], again: bool) -> Turn
-    requires { ⌜ Ready sight clock (length (now history)) ⌝ }
-    ensures { λ r. ⌜ ((cols : List ℕ) → recordBy (sight .hash) (sight .colours) ≡ recordOf cols → Finished sight clock cols (now (history .entry)) again r (now (history .exit))) ⌝ }
+fn finished(
+    sight: Sight,
+    colours: &[u8; MAX_AREA],
+    clock: Clock,
+    history: &mut [u8],
+    again: bool,
+) -> Turn
+    requires { ⌜ Ready sight (now colours) clock (length (now history)) ⌝ }
+    ensures { λ r. ⌜ ((cols : List ℕ) → recordBy (sight .hash) (now (colours .entry)) ≡ recordOf cols → Finished sight clock cols (now (history .entry)) again r (now (history .exit))) ⌝ }
 {
     let mover = player_of(clock.turn);
-    let bytes = record_by(sight.hash, &sight.colours);
+    let bytes = record_by(sight.hash, colours);
     let last = last_answer(
         again,
         clock.accepted,
@@ -118,11 +126,18 @@ fn finished(sight: Sight, clock: Clock, history: &mut [u8], again: bool) -> Turn
 
 // The tests of a stone by what is seen of the board: all of them, for every true state that looks so and has room for its records, unless a capture might
 // bring a recorded board back. It takes no board, which would be copied.
-pub fn tested(sight: Sight, clock: Clock, history: &mut [u8], row: u8, column: u8) -> Turn
-    requires { ⌜ Ready sight clock (length (now history)) ⌝ }
-    ensures { λ r. ⌜ ((b : Board) → Shown b sight clock (length (now (history .entry))) row column → FirstTested (gameOf b clock) (now (history .entry)) row column r (now (history .exit))) ⌝ }
+pub fn tested(
+    sight: Sight,
+    colours: &[u8; MAX_AREA],
+    clock: Clock,
+    history: &mut [u8],
+    row: u8,
+    column: u8,
+) -> Turn
+    requires { ⌜ Ready sight (now colours) clock (length (now history)) ⌝ }
+    ensures { λ r. ⌜ ((b : Board) → Shown b sight (now (colours .entry)) clock (length (now (history .entry))) row column → FirstTested (gameOf b clock) (now (history .entry)) row column r (now (history .exit))) ⌝ }
 {
-    let told = told_by(sight, clock, clock.flags, row, column);
+    let told = told_by(sight, colours, clock, clock.flags, row, column);
     let first = first_answer(clock.passes, known_answer(told));
     if first != ACCEPTED {
         return Turn {
@@ -142,13 +157,19 @@ pub fn tested(sight: Sight, clock: Clock, history: &mut [u8], row: u8, column: u
             records: clock.records,
         };
     }
-    finished(sight, clock, history, false)
+    finished(sight, colours, clock, history, false)
 }
 
 // The rest of the tests where a capture might bring a recorded board back: the stone is laid on a copy, and the board that it leaves is looked for.
-pub fn settled(board: Board, sight: Sight, clock: Clock, history: &mut [u8]) -> Turn
-    requires { ⌜ Settling board sight clock (length (now history)) ⌝ }
-    ensures { λ r. ⌜ ((row column : ℕ) → Shown board sight clock (length (now (history .entry))) row column → Undecided (gameOf board clock) row column → Tested (gameOf board clock) (now (history .entry)) row column r (now (history .exit))) ⌝ }
+pub fn settled(
+    board: Board,
+    sight: Sight,
+    colours: &[u8; MAX_AREA],
+    clock: Clock,
+    history: &mut [u8],
+) -> Turn
+    requires { ⌜ Settling board sight (now colours) clock (length (now history)) ⌝ }
+    ensures { λ r. ⌜ ((row column : ℕ) → Shown board sight (now (colours .entry)) clock (length (now (history .entry))) row column → Undecided (gameOf board clock) row column → Tested (gameOf board clock) (now (history .entry)) row column r (now (history .exit))) ⌝ }
 {
     let numbers = table();
     let laid = lay(
@@ -158,11 +179,12 @@ pub fn settled(board: Board, sight: Sight, clock: Clock, history: &mut [u8]) -> 
         player_of(clock.turn),
         clock.flags,
     );
+    let mut left = [EMPTY; MAX_AREA];
     // what stands beside a point of it is not asked
-    let left = look_at(laid.board, 0, 0);
-    let record = record_by(left.hash, &left.colours);
+    let seen = look_at(laid.board, &mut left, 0, 0, 0);
+    let record = record_by(seen.hash, &left);
     let again = is_recorded(history, clock.records, &record);
-    finished(sight, clock, history, again)
+    finished(sight, colours, clock, history, again)
 }
 
 // The numbers after an accepted stone.
@@ -196,37 +218,47 @@ pub fn moved(clock: Clock, records: usize, taken: u16, lost: u16, place: Place) 
     }
 }
 
-// A stone of the player to move, whatever the state and the bytes are.
+// A stone of the player to move, whatever the state and the bytes are. The game is held in the answer from the first line on, and both judges are
+// asked here: a second place for the game, and a function for both, would copy it once more.
 pub fn stone(game: Game, history: &mut [u8], row: u8, column: u8) -> Answered
     ensures { λ r. ⌜ Called (TrueState game × RoomIn game (length (now (history .entry)))) (rules.stone (viewOf game) (now (history .entry)) row column) game (now (history .entry)) (r .answer) (r .game) (now (history .exit)) ⌝ }
 {
-    // asked apart, since one function for both would copy the game once more
-    let sound = has_room(game.records, history.len()) && judge_state(game);
+    let mut answered = Answered {
+        answer: DAMAGED,
+        game: game,
+    };
+    let found = judged(answered.game.board);
+    let clock = clock_of(answered.game);
+    let sound = numbers_fit_with(
+        found,
+        answered.game.board.height,
+        answered.game.board.width,
+        clock,
+        history.len(),
+    );
     if !sound {
-        return Answered {
-            answer: DAMAGED,
-            game: game,
-        };
+        return answered;
     }
-    let clock = clock_of(game);
-    let sight = look_at(game.board, row, column);
-    let mut turn = tested(sight, clock, history, row, column);
+    let mut colours = [EMPTY; MAX_AREA];
+    let sight = look_at(answered.game.board, &mut colours, 0, row, column);
+    let mut turn = tested(sight, &colours, clock, history, row, column);
     if turn.undecided {
-        turn = settled(game.board, sight, clock, history);
+        turn = settled(answered.game.board, sight, &colours, clock, history);
     }
+    answered.answer = turn.answer;
     if turn.answer != ACCEPTED {
-        return Answered {
-            answer: turn.answer,
-            game: game,
-        };
+        return answered;
     }
     let numbers = table();
-    let laid = lay(game.board, &numbers, turn.point, turn.mover, game.flags);
+    let laid = lay(
+        answered.game.board,
+        &numbers,
+        turn.point,
+        turn.mover,
+        answered.game.flags,
+    );
     let place = laid.ko;
     let ticked = moved(clock, turn.records, laid.taken, laid.lost, place);
-    let after = game_of(laid.board, ticked.clock);
-    Answered {
-        answer: ACCEPTED,
-        game: after,
-    }
+    answered.game = game_of(laid.board, ticked.clock);
+    answered
 }

@@ -9,6 +9,7 @@ use game::state::Game;
 use hashing::zobrist::table;
 use laying::lay::Laid;
 use laying::lay::lay;
+use looking::look::keep;
 use looking::look::look_at;
 use playing::stone::moved;
 use playing::stone::settled;
@@ -16,6 +17,8 @@ use playing::stone::tested;
 use points::answers::ACCEPTED;
 use points::answers::DAMAGED;
 use points::coord::Place;
+use points::sizes::MAX_AREA;
+use points::stones::EMPTY;
 ghost use mathlib.Core.Path.{_≡_};
 ghost use lib.ListN.{length};
 ghost use Rattle.rules.specs.Calls as rules;
@@ -55,7 +58,8 @@ fn unlaid(board: Board) -> Laid
 
 // The state is judged once: each accepted entry leaves a true one. The loop holds the board and the numbers apart and gives neither to a function that gives the
 // game back: `lay` reads the board where it put the last one, and one exit makes a game of both. A stone is tested by what is seen of the board, and
-// the tests take the board itself only where the records decide. The table is made once for all stones.
+// the tests take the board itself only where the records decide. The table is made once for all stones, and the colours are read again only after a stone
+// that removed some.
 pub fn replay(game: Game, history: &mut [u8], moves: &[Move]) -> Replayed
     ensures { λ r. ⌜ Replays (TrueState game × RoomIn game (length (now (history .entry)))) (rules.replay (viewOf game) (now (history .entry)) (entriesOf (now (moves .entry)))) game (now (history .entry)) r (now (history .exit)) ⌝ }
 {
@@ -69,13 +73,15 @@ pub fn replay(game: Game, history: &mut [u8], moves: &[Move]) -> Replayed
         now.answer = ACCEPTED;
         // Made only here: its many stores between the first copies of the game would hide these from the compiler, which then copies once more.
         let numbers = table();
+        let mut colours = [EMPTY; MAX_AREA];
+        let mut read = 0;
         while at < moves.len() {
             let entry = moves[at];
             if entry.kind == 0 {
-                let sight = look_at(laid.board, entry.row, entry.column);
-                let mut turn = tested(sight, now.clock, history, entry.row, entry.column);
+                let sight = look_at(laid.board, &mut colours, read, entry.row, entry.column);
+                let mut turn = tested(sight, &colours, now.clock, history, entry.row, entry.column);
                 if turn.undecided {
-                    turn = settled(laid.board, sight, now.clock, history);
+                    turn = settled(laid.board, sight, &colours, now.clock, history);
                 }
                 now.answer = turn.answer;
                 if turn.answer == ACCEPTED {
@@ -86,6 +92,7 @@ pub fn replay(game: Game, history: &mut [u8], moves: &[Move]) -> Replayed
                         turn.mover,
                         now.clock.flags,
                     );
+                    read = keep(&mut colours, turn.point, turn.mover, laid.taken, laid.lost);
                     now = moved(now.clock, turn.records, laid.taken, laid.lost, laid.ko);
                 }
             } else {

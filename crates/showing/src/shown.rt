@@ -1,7 +1,9 @@
 // What a game shows of its board: the empty points, and the board itself.
 use board::goban::Board;
 use board::goban::empty_board;
-use game::judge::judge_state;
+use board::judge::judged;
+use game::clock::clock_of;
+use game::judge::numbers_fit;
 use game::state::Game;
 use gathering::list::get_empty_coords;
 use listing::list::Listed;
@@ -20,7 +22,9 @@ ghost use Rattle.showing.specs.Promise.{Shown};
 pub fn empty_points(game: Game, buffer: &mut [u16]) -> Listed
     ensures { λ r. ⌜ Filled (TrueState game) (listAnswer (game .board .height) (game .board .width) (length (now (buffer .entry))) (Coloured empty)) (listed (game .board .height) (game .board .width) (coloursOf (game .board)) (Coloured empty)) (now (buffer .entry)) r (now (buffer .exit)) ⌝ }
 {
-    if !judge_state(game) {
+    let found = judged(game.board);
+    let clock = clock_of(game);
+    if !numbers_fit(found, game.board.height, game.board.width, clock) {
         return Listed {
             number: DAMAGED,
             count: 0,
@@ -40,7 +44,9 @@ pub struct BoardAnswer {
 pub fn board_of(game: Game) -> BoardAnswer
     ensures { λ r. ⌜ Shown game r ⌝ }
 {
-    if !judge_state(game) {
+    let found = judged(game.board);
+    let clock = clock_of(game);
+    if !numbers_fit(found, game.board.height, game.board.width, clock) {
         let nothing = empty_board(1, 1);
         return BoardAnswer {
             answer: DAMAGED,

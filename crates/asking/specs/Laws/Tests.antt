@@ -87,25 +87,25 @@ module _ (g : Game) where
 
   -- ---- By what is seen of the board
 
-  module _ (r c : ℕ) (is : TrueBoard (g .board)) (s : Sight) (sees : Sees (g .board) r c s)
-      (x : Spot) (found : x ≡ spotOf (s .height) (s .width) (s .colours) r c) where
+  module _ (r c : ℕ) (is : TrueBoard (g .board)) (cs : List ℕ) (s : Sight) (sees : Sees (g .board) r c cs s)
+      (x : Spot) (found : x ≡ spotOf (s .height) (s .width) cs r c) where
     pub spot-seen : x ≡ spotOf h w cols r c
-    spot-seen = found ∙ spot-there (g .board) r c s sees is
+    spot-seen = found ∙ spot-there (g .board) r c cs s sees is
 
     module _ (p : ℕ) (e : x ≡ Empty p) where
       pub near-seen : s .near ≡ nearOf h w cols p
-      near-seen = near-there (g .board) r c s sees ∙ ap (nearOf h w cols) (sym (empty-free _ _ _ r c p (sym spot-seen ∙ e) .here))
+      near-seen = near-there (g .board) r c cs s sees ∙ ap (nearOf h w cols) (sym (empty-free _ _ _ r c p (sym spot-seen ∙ e) .here))
 
       module _ (own : ℕ) (mover : own ≡ turnOf (g .turn)) where
-        at-board : (test : Test) → testedNear (s .near) (s .colours) h w own (g .ko) p test ≡ tested (viewOf g) p test
+        at-board : (test : Test) → testedNear (s .near) cs h w own (g .ko) p test ≡ tested (viewOf g) p test
         unfolding viewOf
         at-board tests.Capture = own-captures g p (s .near) near-seen own mover
         at-board tests.Suicide = own-suicide g p (s .near) near-seen own mover
         at-board tests.Ko = its-ko g p (s .near) near-seen _ refl
-        at-board tests.Eye = own-eye g p is (s .colours) (sees .colours) own mover
+        at-board tests.Eye = own-eye g p is cs (sees .colours) own mover
 
-        pub near-tested : (test : Test) → testedNear (s .near) (s .colours) (s .height) (s .width) own (g .ko) p test ≡ tested (viewOf g) p test
-        near-tested test = (λ i. testedNear (s .near) (s .colours) (sees .height i) (sees .width i) own (g .ko) p test) ∙ at-board test
+        pub near-tested : (test : Test) → testedNear (s .near) cs (s .height) (s .width) own (g .ko) p test ≡ tested (viewOf g) p test
+        near-tested test = (λ i. testedNear (s .near) cs (sees .height i) (sees .width i) own (g .ko) p test) ∙ at-board test
 
   -- ---- The superko test
 

@@ -172,22 +172,22 @@ module _ (g : Game) (flags r c : ℕ) (is : TrueBoard (g .board)) (s : Spot) (fo
 
 -- ---- By what is seen of a board there
 
-module _ (b : Board) (r c : ℕ) (s : Sight) (sees : Sees b r c s) where
+module _ (b : Board) (r c : ℕ) (cs : List ℕ) (s : Sight) (sees : Sees b r c cs s) where
   pub near-there : s .near ≡ nearOf (b .height) (b .width) (coloursOf b) (index (b .width) r c)
   near-there = sees .near ∙ ap (nearOf (b .height) (b .width) (coloursOf b)) (sees .point)
 
-  pub spot-there : TrueBoard b → spotOf (s .height) (s .width) (s .colours) r c ≡ spotOf (b .height) (b .width) (coloursOf b) r c
+  pub spot-there : TrueBoard b → spotOf (s .height) (s .width) cs r c ≡ spotOf (b .height) (b .width) (coloursOf b) r c
   spot-there is =
-      (λ i. spotOf (sees .height i) (sees .width i) (s .colours) r c)
-      ∙ spot-same (b .height) (b .width) (s .colours) (coloursOf b) r c (sight-at b is (s .colours) (sees .colours) (index (b .width) r c))
+      (λ i. spotOf (sees .height i) (sees .width i) cs r c)
+      ∙ spot-same (b .height) (b .width) cs (coloursOf b) r c (sight-at b is cs (sees .colours) (index (b .width) r c))
 
-pub told-seen : (b : Board) (k : Clock) (flags r c : ℕ) → TrueBoard b → (s : Sight) → Sees b r c s → (x : Spot) → x ≡ spotOf (s .height) (s .width) (s .colours) r c
-    → (own : ℕ) → own ≡ turnOf (k .turn) → (t : Told)
-    → t ≡ toldSpot x (toldNear flags (s .near) (s .colours) (s .height) (s .width) own (k .ko) (k .records)) → ToldAt (gameOf b k) flags r c t
+pub told-seen : (b : Board) (k : Clock) (flags r c : ℕ) → TrueBoard b → (cs : List ℕ) (s : Sight) → Sees b r c cs s
+    → (x : Spot) → x ≡ spotOf (s .height) (s .width) cs r c → (own : ℕ) → own ≡ turnOf (k .turn)
+    → (t : Told) → t ≡ toldSpot x (toldNear flags (s .near) cs (s .height) (s .width) own (k .ko) (k .records)) → ToldAt (gameOf b k) flags r c t
 unfolding gameOf
-told-seen b k flags r c is s sees x found own mover t told =
-    told-at (gameOf b k) flags r c is x (found ∙ spot-there b r c s sees is) (s .near) (near-there b r c s sees) (s .colours) (sees .colours) own mover t
-    (told ∙ (λ i. toldSpot x (toldNear flags (s .near) (s .colours) (sees .height i) (sees .width i) own (k .ko) (k .records))))
+told-seen b k flags r c is cs s sees x found own mover t told =
+    told-at (gameOf b k) flags r c is x (found ∙ spot-there b r c cs s sees is) (s .near) (near-there b r c cs s sees) cs (sees .colours) own mover t
+    (told ∙ (λ i. toldSpot x (toldNear flags (s .near) cs (sees .height i) (sees .width i) own (k .ko) (k .records))))
 
 -- ---- What passes so far may be laid
 

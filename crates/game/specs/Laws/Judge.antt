@@ -1,6 +1,6 @@
 -- Laws of Judge: a state is true exactly if its board is, its numbers are in range, its sums hold, and without the mark it is untouched.
 use mathlib.Core.Path.{_≡_, refl, sym, ap, _∙_, subst}
-use mathlib.Core.Bool.{Bool, true, false, not, true≢false}
+use mathlib.Core.Bool.{Bool, true, false, not, cond, true≢false}
 use mathlib.Core.Logic.{inl, inr, ⊎-elim}
 use mathlib.Core.Option.{some, Option·none-ne-some, Option·some-injective}
 use Prim.Native.Nat.{ℕ, _+_, _≤_, _<_}
@@ -10,17 +10,21 @@ use borrow.Author.Tests.{eqb-true, eq-eqb, not-false}
 use Rattle.rules.specs.Sizes.{maxStones}
 use Rattle.rules.specs.Points.{area}
 use Rattle.rules.specs.Colours.{black, white}
-use Rattle.rules.specs.Game.{Player}
+use Rattle.rules.specs.Game.{Player, stones}
 use Rattle.rules.specs.Laws.Lists.{decided}
+use Rattle.board.specs.declared.goban.Board.{Board}
+use Rattle.board.specs.declared.judge.Verdict.{Verdict}
 use Rattle.board.specs.Board.{coloursOf}
 use Rattle.board.specs.True.{TrueBoard}
 use Rattle.board.specs.Laws.Chains.{true-colours}
 use Rattle.game.specs.declared.state.Game.{Game}
 use Rattle.game.specs.declared.state.Tally.{Tally}
-use Rattle.game.specs.View.{outcomeOf, begunOf, viewOf, TrueState}
-use Rattle.game.specs.Judge.{Decides, Counted, InRange, Summed, Untouched}
+use Rattle.game.specs.declared.clock.Clock.{Clock}
+use Rattle.game.specs.Clock.{clockOf, gameOf}
+use Rattle.game.specs.View.{outcomeOf, begunOf, viewOf, TrueState, RoomIn}
+use Rattle.game.specs.Judge.{Decides, Judged, Counted, InRange, Summed, Untouched}
 use Rattle.board.specs.Laws.NewBoard.{no-stones}
-use Rattle.game.specs.Laws.View.{turn-player}
+use Rattle.game.specs.Laws.View.{turn-player, game-whole}
 
 -- ---- An answer
 
@@ -121,3 +125,26 @@ module _ (g : Game) where
                   };
             };
       }
+
+-- ---- The board's judge and the numbers
+
+module _ {g : Game} {k : Clock} {found : Verdict} (clock : k ≡ clockOf g)
+    (told :
+    (found .good ≡ true → TrueBoard (g .board)) × ((TrueBoard (g .board) → found .good ≡ true) ×
+    ((found .black ≡ cond (found .good) (stones (coloursOf (g .board)) black) 0) × (found .white ≡ cond (found .good) (stones (coloursOf (g .board)) white) 0))))
+    {r : Bool} where
+  -- what is decided for every board of which the judge finds this is decided for the game's
+  decides-game : (P : Game → Type 0)
+      → ((b : Board) → b .height ≡ g .board .height → b .width ≡ g .board .width → Judged b found → Decides r (P (gameOf b k))) → Decides r (P g)
+  decides-game P decides =
+      subst (λ (x : Game). Decides r (P x)) (game-whole g (g .board) k refl clock)
+      (decides (g .board) refl refl (record { sound = told .0; complete = told .1 .0; blacks = told .1 .1 .0; whites = told .1 .1 .1 }))
+
+  pub decides-state : ((b : Board) → b .height ≡ g .board .height → b .width ≡ g .board .width → Judged b found → Decides r (TrueState (gameOf b k))) → Decides r (TrueState g)
+  decides-state = decides-game TrueState
+
+  -- with a history of n bytes
+  pub decides-with : (n : ℕ)
+      → ((b : Board) → b .height ≡ g .board .height → b .width ≡ g .board .width → Judged b found → Decides r (TrueState (gameOf b k) × RoomIn (gameOf b k) n))
+      → Decides r (TrueState g × RoomIn g n)
+  decides-with n = decides-game (λ x. TrueState x × RoomIn x n)

@@ -207,18 +207,18 @@ module _ (g : Game) (bytes : List ℕ) (r c : ℕ) (is : TrueState g) (room : Ro
 
 -- ---- By what is seen of the board
 
-pub shown-ready : (b : Board) (s : Sight) (k : Clock) (n r c : ℕ) → Shown b s k n r c → Ready s k n
+pub shown-ready : (b : Board) (s : Sight) (cs : List ℕ) (k : Clock) (n r c : ℕ) → Shown b s cs k n r c → Ready s cs k n
 unfolding gameOf RoomIn
-shown-ready b s k n r c is =
+shown-ready b s cs k n r c is =
     record {
-      packing = sees-packing b (is .state .board) r c s (is .sees);
+      packing = sees-packing b (is .state .board) r c cs s (is .sees);
       colours = coloursOf b;
-      its = sees-record b (is .state .board) r c s (is .sees);
+      its = sees-record b (is .state .board) r c cs s (is .sees);
       room = is .room;
     }
 
 -- what the last tests say is what a stone promises
-module _ (b : Board) (s : Sight) (k : Clock) (bytes : List ℕ) (r c : ℕ) (is : Shown b s k (length bytes) r c)
+module _ (b : Board) (s : Sight) (cs : List ℕ) (k : Clock) (bytes : List ℕ) (r c : ℕ) (is : Shown b s cs k (length bytes) r c)
     (t : Told) (told : ToldAt (gameOf b k) (k .flags) r c t) (passes′ : firstAnswer (k .passes) (known t) ≡ 0)
     (again : Bool) (looked : undecided t ≡ true → again ≡ recorded bytes (k .records) (resulting (viewOf (gameOf b k)) (index (b .width) r c)))
     (skipped : undecided t ≡ false → again ≡ false) (turn : Turn) (bytes′ : List ℕ) (done : Finished s k (coloursOf b) bytes again turn bytes′) where

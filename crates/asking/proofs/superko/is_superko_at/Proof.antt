@@ -5,7 +5,10 @@ use borrow.Author.Tests.{not-true, not-false}
 use Rattle.rules.specs.Laws.Lists.{not-both}
 use Rattle.board.specs.Board.{coloursOf}
 use Rattle.legality.specs.Near.{nearOf}
+use Rattle.looking.specs.Laws.Sight.{unread, sight-long}
 use Rattle.game.specs.View.{TrueState, RoomIn}
+use Rattle.game.specs.Judge.{Decides}
+use Rattle.game.specs.Laws.Judge.{decides-with}
 use Rattle.checking.specs.Spot.{spotOf}
 use Rattle.checking.specs.Laws.Asking.{empty-asking}
 use Rattle.asking.specs.Tests.{superkoAt}
@@ -24,15 +27,19 @@ use borrow.Author.Needs.{needs}
 use Rattle.asking.proofs.superko.is_superko_at.Statement.{statement}
 use Rattle.asking.proofs.superko.is_superko_at.Tie as tie
 
+-- both judges together are the judge of the state with its history
+judge : (c : tie.After-numbers-fit-with) → let a = c .before .before .before .before .args in Decides (c .numbers-fit-with .result) (TrueState (a .game) × RoomIn (a .game) (length (a .history .now)))
+judge c = decides-with (c .before .clock-of .ensures) (c .before .before .judged .ensures) _ (c .numbers-fit-with .ensures)
+
 abbrev looked : tie.After-spot-of → tie.After-look-at
-looked c = c .before .before .before
+looked c = c .before .before
 
 abbrev begin : tie.After-spot-of → tie.Start
-begin c = looked c .before .before .before .before
+begin c = looked c .before .before .before .before .before .before .before
 
 -- the state is a true one
-good : (c : tie.Else1) → let a = c .before .before .before .args in TrueState (a .game) × RoomIn (a .game) (length (a .history .now))
-good c = c .before .judge-with .ensures .0 (not-false _ (c .if1 .left))
+good : (c : tie.Else1) → let a = c .before .before .before .before .before .args in TrueState (a .game) × RoomIn (a .game) (length (a .history .now))
+good c = judge (c .before) .sound (not-false _ (c .if1 .left))
 
 -- the spot is that of the board
 found : (c : tie.After-spot-of)
@@ -40,7 +47,7 @@ found : (c : tie.After-spot-of)
     c .spot-of .result ≡ spotOf (a .game .board .height) (a .game .board .width) (coloursOf (a .game .board)) (a .row) (a .column)
 found c =
     let a = begin c .args in
-    spot-seen (a .game) (a .row) (a .column) (good (looked c .before) .0 .board) _ (looked c .look-at .ensures) _ (c .spot-of .ensures)
+    spot-seen (a .game) (a .row) (a .column) (good (looked c .before .before) .0 .board) _ _ (looked c .look-at .ensures) _ (c .spot-of .ensures)
 
 -- ---- At an empty point
 
@@ -58,22 +65,30 @@ beside : (c : tie.After-superko-told)
 beside c =
     let at = spotted c in
     let a = begin at .args in
-    near-seen (a .game) (a .row) (a .column) (good (looked at .before) .0 .board) _ (looked at .look-at .ensures) _ (at .spot-of .ensures)
+    near-seen (a .game) (a .row) (a .column) (good (looked at .before .before) .0 .board) _ _ (looked at .look-at .ensures) _ (at .spot-of .ensures)
     _ (matched c .spot .given .1)
 
 -- ---- The needs
 
-judge-with-requires : tie.Need-judge-with-requires
-judge-with-requires c κs = search needs
+judged-requires : tie.Need-judged-requires
+judged-requires c κs = search needs
+
+clock-of-requires : tie.Need-clock-of-requires
+clock-of-requires c κs = search needs
+
+numbers-fit-with-requires : tie.Need-numbers-fit-with-requires
+numbers-fit-with-requires c κs = search needs
 
 returns : tie.Need-returns
-returns c = tested-damaged (λ is. not-both (c .before .judge-with .ensures .1 is) (not-true _ (c .if1 .taken)))
+returns c = tested-damaged (λ is. not-both (judge (c .before) .complete is) (not-true _ (c .if1 .taken)))
 
 look-at-requires : tie.Need-look-at-requires
-look-at-requires c κs = good c .0 .board
+look-at-requires c κs = (good (c .before) .0 .board, unread _)
 
 spot-of-requires : tie.Need-spot-of-requires
-spot-of-requires c κs = search needs
+spot-of-requires c κs =
+    let seen = c .before in
+    sight-long (seen .before .before .before .before .before .before .before .args .game .board) (good (seen .before .before) .0 .board) _ (seen .look-at .ensures .colours)
 
 enum-told : tie.Need-enum-told
 enum-told c = search needs
@@ -104,7 +119,7 @@ repeats-requires c κs =
     let told = c .before .before in
     let at = spotted told in
     let a = begin at .args in
-    let is = good (looked at .before) in
+    let is = good (looked at .before .before) in
     superko-repeating (a .game) _ _ (beside told) _ (told .before .before .player-of .ensures) _ (told .before .is-ko-point .ensures) _ (told .superko-told .ensures)
     _ (empty-asking (a .game) (a .history .now) (a .game .flags) _ _ _ (found at) _ (matched told .spot .given .1) _ (is .0) (is .1)) (c .enum-told3 .given .1)
 
@@ -114,7 +129,7 @@ returns-2 c =
     let told = c .before .before .before in
     let at = spotted told in
     let a = begin at .args in
-    tested-empty (good (looked at .before)) _ _ _ _ _ (found at) _ (matched told .spot .given .1) _
+    tested-empty (good (looked at .before .before)) _ _ _ _ _ (found at) _ (matched told .spot .given .1) _
     (c .repeats .ensures
     ∙ superko-again (a .game) _ _ (beside told) _ (told .before .before .player-of .ensures) _ (told .before .is-ko-point .ensures)
     _ (told .superko-told .ensures) (a .history .now) (c .before .enum-told3 .given .1))
@@ -123,13 +138,13 @@ returns-3 : tie.Need-returns-3
 unfolding superkoAt
 returns-3 c =
     let at = c .before .before in
-    tested-off (good (looked at .before)) _ _ _ _ _ (found at) (c .enum-told .given .1)
+    tested-off (good (looked at .before .before)) _ _ _ _ _ (found at) (c .enum-told .given .1)
 
 returns-4 : tie.Need-returns-4
 unfolding superkoAt
 returns-4 c =
     let at = c .before .before in
-    tested-stone (good (looked at .before)) _ _ _ _ _ (found at) (c .enum-told2 .given .1)
+    tested-stone (good (looked at .before .before)) _ _ _ _ _ (found at) (c .enum-told2 .given .1)
 
 returns-5 : tie.Need-returns-5
 unfolding superkoAt
@@ -137,7 +152,7 @@ returns-5 c =
     let told = c .before .before .before in
     let at = spotted told in
     let a = begin at .args in
-    tested-empty (good (looked at .before)) _ _ _ _ _ (found at) _ (matched told .spot .given .1) _
+    tested-empty (good (looked at .before .before)) _ _ _ _ _ (found at) _ (matched told .spot .given .1) _
     (superko-known (a .game) _ _ (beside told) _ (told .before .before .player-of .ensures) _ (told .before .is-ko-point .ensures)
     _ (told .superko-told .ensures) (a .history .now) _ (c .before .told .given .1))
 
@@ -145,7 +160,9 @@ pub is-superko-at-spec : {M : Type 1} → statement M
 is-superko-at-spec =
     tie.close
     (tie.spec
-    judge-with-requires
+    judged-requires
+    clock-of-requires
+    numbers-fit-with-requires
     returns
     look-at-requires
     spot-of-requires

@@ -7,6 +7,7 @@ use Rattle.rules.specs.Records.{recorded}
 use Rattle.rules.specs.Points.{index}
 use Rattle.rules.specs.Answers.{number, refuse, SuperKo}
 use Rattle.rules.specs.Calls.{resulting}
+use Rattle.looking.specs.Laws.Sight.{unread, sight-long}
 use Rattle.game.specs.declared.state.Game.{Game}
 use Rattle.game.specs.View.{viewOf}
 use Rattle.game.specs.Laws.View.{game-whole}
@@ -17,27 +18,30 @@ use Rattle.checking.proofs.point.point_answer.Statement.{statement}
 use Rattle.checking.proofs.point.point_answer.Tie as tie
 
 abbrev looked : tie.After-told-by → tie.After-look-at
-looked c = c .before .before
+looked c = c .before .before .before
 
 abbrev begin : tie.After-told-by → tie.Start
-begin c = looked c .before .before
+begin c = looked c .before .before .before
 
 told : (c : tie.After-told-by) → let a = begin c .args in ToldAt (a .game) (a .flags) (a .row) (a .column) (c .told-by .result)
 told c =
     let s = begin c in
     let a = s .args in
     subst (λ (g : Game). ToldAt g (a .flags) (a .row) (a .column) (c .told-by .result))
-    (game-whole (a .game) (a .game .board) (c .before .clock-of .result) refl (c .before .clock-of .ensures))
+    (game-whole (a .game) (a .game .board) (c .before .before .clock-of .result) refl (c .before .before .clock-of .ensures))
     (c .told-by .ensures (a .game .board) (s .pre .0 .board) (looked c .look-at .ensures))
 
 look-at-requires : tie.Need-look-at-requires
-look-at-requires c κs = c .before .pre .0 .board
+look-at-requires c κs = (c .before .before .pre .0 .board, unread _)
 
 clock-of-requires : tie.Need-clock-of-requires
 clock-of-requires c κs = search needs
 
 told-by-requires : tie.Need-told-by-requires
-told-by-requires c κs = search needs
+told-by-requires c κs =
+    let looked = c .before .before in
+    let start = looked .before .before .before in
+    sight-long (start .args .game .board) (start .pre .0 .board) _ (looked .look-at .ensures .colours)
 
 enum-known-answer : tie.Need-enum-known-answer
 enum-known-answer c = search needs

@@ -15,10 +15,10 @@ told-of-requires c κs = search needs
 
 returns : tie.Need-returns
 returns c b is sees =
-    let mover = c .before .before .before in
+    let mover = c .before in
     let found = mover .before .before in
-    let a = found .before .before .before .args in
-    told-seen b (a .clock) (a .flags) (a .row) (a .column) is (a .t1) sees _ (found .spot-of .ensures) _ (mover .player-of .ensures) _ (c .told-of .ensures)
+    let a = found .before .args in
+    told-seen b (a .clock) (a .flags) (a .row) (a .column) is (a .colours .now) (a .sight) sees _ (found .spot-of .ensures) _ (mover .player-of .ensures) _ (c .told-of .ensures)
 
 pub told-by-spec : {M : Type 1} → statement M
 told-by-spec =

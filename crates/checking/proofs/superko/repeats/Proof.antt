@@ -10,7 +10,7 @@ use Rattle.rules.specs.Laws.Records.{length-record}
 use Rattle.board.specs.Board.{coloursOf}
 use Rattle.history.specs.History.{among}
 use Rattle.history.specs.Laws.History.{among-recorded}
-use Rattle.looking.specs.Laws.Sight.{sees-packing, sees-record}
+use Rattle.looking.specs.Laws.Sight.{unread, sees-packing, sees-record}
 use Rattle.game.specs.View.{RoomIn, viewOf}
 use Rattle.checking.specs.Laws.Asking.{repeating-laying}
 use Rattle.checking.proofs.superko.repeats.Statement.{statement}
@@ -26,19 +26,20 @@ lay-requires : tie.Need-lay-requires
 lay-requires c κs = (repeating-laying _ _ _ (c .before .before .before .before .pre) _ (c .player-of .ensures), c .before .before .table .ensures)
 
 look-at-requires : tie.Need-look-at-requires
-look-at-requires c κs = search needs
+look-at-requires c κs = (c .before .lay .ensures .board, unread _)
 
 record-by-requires : tie.Need-record-by-requires
 record-by-requires c κs =
-    let looked = c .before .before in
-    sees-packing (looked .before .lay .result .board) (looked .before .lay .ensures .board) _ _ _ (looked .look-at .ensures)
+    let looked = c .before in
+    let laid = looked .before .before in
+    sees-packing (laid .lay .result .board) (laid .lay .ensures .board) _ _ _ _ (looked .look-at .ensures)
 
 -- the record of the board that is laid
 left-record : (c : tie.After-record-by) → c .record-by .result ≡ recordOf (coloursOf (c .before .before .before .before .lay .result .board))
 left-record c =
-    let looked = c .before .before .before in
-    let laid = looked .before in
-    c .record-by .ensures ∙ sees-record (laid .lay .result .board) (laid .lay .ensures .board) _ _ _ (looked .look-at .ensures)
+    let looked = c .before .before in
+    let laid = looked .before .before in
+    c .record-by .ensures ∙ sees-record (laid .lay .result .board) (laid .lay .ensures .board) _ _ _ _ (looked .look-at .ensures)
 
 is-recorded-requires : tie.Need-is-recorded-requires
 unfolding RoomIn capacity

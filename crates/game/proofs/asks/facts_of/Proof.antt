@@ -3,19 +3,31 @@ use mathlib.Core.Path.{refl}
 use borrow.Author.Tests.{not-true, not-false}
 use Rattle.rules.specs.Answers.{number}
 use Rattle.rules.specs.Laws.Lists.{not-both}
-use Rattle.game.specs.View.{viewOf}
+use Rattle.game.specs.View.{viewOf, TrueState}
 use Rattle.game.specs.Asks.{noFacts}
+use Rattle.game.specs.Judge.{Decides}
+use Rattle.game.specs.Laws.Judge.{decides-state}
 use borrow.Author.Needs.{needs}
 use Rattle.game.proofs.asks.facts_of.Statement.{statement}
 use Rattle.game.proofs.asks.facts_of.Tie as tie
 
-judge-state-requires : tie.Need-judge-state-requires
-judge-state-requires c κs = search needs
+-- both judges together are the judge of the state
+judge : (c : tie.After-numbers-fit) → let a = c .before .before .before .args in Decides (c .numbers-fit .result) (TrueState (a .game))
+judge c = decides-state (c .before .clock-of .ensures) (c .before .before .judged .ensures) (c .numbers-fit .ensures)
+
+judged-requires : tie.Need-judged-requires
+judged-requires c κs = search needs
+
+clock-of-requires : tie.Need-clock-of-requires
+clock-of-requires c κs = search needs
+
+numbers-fit-requires : tie.Need-numbers-fit-requires
+numbers-fit-requires c κs = search needs
 
 returns : tie.Need-returns
 unfolding number noFacts
 returns c =
-    record { damaged = λ n. refl; told = λ is. absurd (not-both (c .before .judge-state .ensures .1 is) (not-true _ (c .if1 .taken))) }
+    record { damaged = λ n. refl; told = λ is. absurd (not-both (judge (c .before) .complete is) (not-true _ (c .if1 .taken))) }
 
 player-of-requires : tie.Need-player-of-requires
 player-of-requires c κs = search needs
@@ -34,7 +46,7 @@ unfolding number viewOf
 returns-2 c =
     let sound = c .before .before .before .before .before .before in
     record {
-      damaged = λ n. absurd (n (sound .before .judge-state .ensures .0 (not-false _ (sound .if1 .left))));
+      damaged = λ n. absurd (n (judge (sound .before) .sound (not-false _ (sound .if1 .left))));
       told =
           λ is.
           record {
@@ -59,7 +71,9 @@ pub facts-of-spec : {M : Type 1} → statement M
 facts-of-spec =
     tie.close
     (tie.spec
-    judge-state-requires
+    judged-requires
+    clock-of-requires
+    numbers-fit-requires
     returns
     player-of-requires
     ko-point-requires

@@ -1,29 +1,23 @@
--- The history has no room, or the state decides.
-use borrow.Author.Tests.{not-true, not-false}
-use Rattle.rules.specs.Laws.Lists.{not-both}
-use Rattle.game.specs.View.{RoomIn}
-use Rattle.game.specs.Laws.Judge.{decides-no, two-ways}
+-- The board's judge, and the numbers and the room beside what it found.
 use borrow.Author.Needs.{needs}
+use Rattle.game.specs.Laws.Judge.{two-ways, decides-with}
 use Rattle.game.proofs.judge.judge_with.Statement.{statement}
 use Rattle.game.proofs.judge.judge_with.Tie as tie
 
-has-room-requires : tie.Need-has-room-requires
-has-room-requires c κs = search needs
+judged-requires : tie.Need-judged-requires
+judged-requires c κs = search needs
+
+clock-of-requires : tie.Need-clock-of-requires
+clock-of-requires c κs = search needs
+
+numbers-fit-with-requires : tie.Need-numbers-fit-with-requires
+numbers-fit-with-requires c κs = search needs
 
 returns : tie.Need-returns
-unfolding RoomIn
-returns c = two-ways (decides-no (λ both. not-both (c .before .has-room .ensures .complete (both .1)) (not-true _ (c .if1 .taken))))
-
-judge-state-requires : tie.Need-judge-state-requires
-judge-state-requires c κs = search needs
-
-returns-2 : tie.Need-returns-2
-unfolding RoomIn
-returns-2 c =
-    let room = c .before .before .has-room .ensures .sound (not-false _ (c .before .if1 .left)) in (
-      λ t. (c .judge-state .ensures .0 t, room),
-      λ both. c .judge-state .ensures .1 (both .0),
-    )
+returns c =
+    let read = c .before in
+    let found = read .before in
+    two-ways (decides-with (read .clock-of .ensures) (found .judged .ensures) _ (c .numbers-fit-with .ensures))
 
 pub judge-with-spec : {M : Type 1} → statement M
-judge-with-spec = tie.close (tie.spec has-room-requires returns judge-state-requires returns-2)
+judge-with-spec = tie.close (tie.spec judged-requires clock-of-requires numbers-fit-with-requires returns)

@@ -1,5 +1,5 @@
 -- `looking::look::look_at`: after some turns the first places hold what the table says of the first points beside, and then the colours of the
--- first points are read, all others being empty. The measure of each loop is how many points are left.
+-- first points are read. The measure of each loop is how many points are left.
 use mathlib.Core.Path.{_≡_, refl, ap, _∙_}
 use mathlib.Core.Logic.{⊎-elim}
 use Prim.Native.Nat.{_-_, _<_}
@@ -15,26 +15,26 @@ use Rattle.board.specs.Laws.Board.{area-fits, length-colours}
 use Rattle.history.specs.Packing.{onLargest}
 use Rattle.legality.specs.declared.near.Beside.{Beside}
 use Rattle.legality.specs.Near.{inFour, nearOf}
-use Rattle.looking.specs.Seen.{chainSeen}
+use Rattle.looking.specs.Seen.{chainSeen, Partly}
+use Rattle.looking.specs.Laws.Sight.{one-read}
 use Rattle.looking.specs.Laws.Table.{libertiesAt, stonesAt, chain-read, nothing-read, shade-read, colour-told, liberties-told, stones-told}
 use Rattle.looking.proofs.Sides.{Seeing, more, all}
-use Rattle.looking.proofs.Points.{Upto, none-yet, whole}
-use Rattle.looking.proofs.Points as points
+use Rattle.looking.proofs.Points.{whole}
 use Rattle.looking.proofs.look.look_at.Statement.{statement}
 use Rattle.looking.proofs.look.look_at.Tie as tie
 
 abbrev Inv-loop : tie.InvT-loop
-Inv-loop row column board point beside count colours₀ liberties₀ stones₀ side₀ colours liberties stones side =
+Inv-loop entry read row column board point beside count colours₀ liberties₀ stones₀ side₀ colours liberties stones side =
     Seeing (at (coloursOf board)) (libertiesAt board) (stonesAt board) beside count colours liberties stones side
 
 abbrev μ-loop : tie.MeasureT-loop
-μ-loop row column board point beside count colours₀ liberties₀ stones₀ side₀ colours liberties stones side = count - side
+μ-loop entry read row column board point beside count colours₀ liberties₀ stones₀ side₀ colours liberties stones side = count - side
 
 abbrev Inv-loop2 : tie.InvT-loop2
-Inv-loop2 row column board point beside count near-colours near-liberties near-stones points colours₀ p₀ colours p = Upto (at (coloursOf board)) colours p
+Inv-loop2 entry read row column board point count near-colours near-liberties near-stones side points p₀ colours p = Partly board p colours
 
 abbrev μ-loop2 : tie.MeasureT-loop2
-μ-loop2 row column board point beside count near-colours near-liberties near-stones points colours₀ p₀ colours p = points - p
+μ-loop2 entry read row column board point count near-colours near-liberties near-stones side points p₀ colours p = points - p
 
 -- ---- The points beside
 
@@ -54,7 +54,7 @@ point-on c =
     let b = start .args .t1 in
     let on : getD (near .neighbours .result .points) (loop .loop .side) 0 < area (b .height) (b .width) =
     around-on (b .height) (b .width) (near .before .two-to-1dim .result) (near .neighbours .result) (near .neighbours .ensures) (loop .loop .side) (test .loop-test .taken) in
-    omega (arith, on, c .index .ensures, area-fits (start .pre .table .size))
+    omega (arith, on, c .index .ensures, area-fits (start .pre .0 .table .size))
 
 two-to-1dim-requires : tie.Need-two-to-1dim-requires Inv-loop μ-loop Inv-loop2 μ-loop2
 two-to-1dim-requires c κs = search needs
@@ -111,8 +111,8 @@ shown c =
     let b = start .args .t1 in
     let q = read .index .result in
     ⊎-elim
-    (λ w. w .3 ∙ w .2 .ensures ∙ ap chainSeen (chain-read b (start .pre) q (point-on read) _ (owned .index2 .ensures) (w .0 .taken) _))
-    (λ w. w .1 ∙ c .before .nothing-seen .ensures ∙ nothing-read b (start .pre) q (point-on read) _ (owned .index2 .ensures) (w .0 .left))
+    (λ w. w .3 ∙ w .2 .ensures ∙ ap chainSeen (chain-read b (start .pre .0) q (point-on read) _ (owned .index2 .ensures) (w .0 .taken) _))
+    (λ w. w .1 ∙ c .before .nothing-seen .ensures ∙ nothing-read b (start .pre .0) q (point-on read) _ (owned .index2 .ensures) (w .0 .left))
     (c .if1 .came)
 
 array-write-near-colours : tie.Need-array-write-near-colours Inv-loop μ-loop Inv-loop2 μ-loop2
@@ -143,7 +143,7 @@ loop-again c =
     let loop = test .before in
     let start = loop .before .before .before .before in
     let b = start .args .t1 in
-    let is = start .pre in
+    let is = start .pre .0 in
     let q = read .index .result in
     let here = read .index .ensures in
     more _ _ _ _ _ _ _ _ _ (loop .loop .inv) (test .loop-test .taken) (in-four test) (four (loop .before .before)) _ _ _
@@ -158,13 +158,13 @@ place : (c : tie.In-loop2 Inv-loop μ-loop Inv-loop2 μ-loop2) → c .before .lo
 place c =
     let measured = c .before .before in
     let start = measured .before .before .before .before .before .before in
-    omega (arith, c .loop2-test .taken, measured .area .ensures, area-fits (start .pre .table .size))
+    omega (arith, c .loop2-test .taken, measured .area .ensures, area-fits (start .pre .0 .table .size))
 
 area-requires : tie.Need-area-requires Inv-loop μ-loop Inv-loop2 μ-loop2
 area-requires c κs = search needs
 
 loop2-holds : tie.Need-loop2-holds Inv-loop μ-loop Inv-loop2 μ-loop2
-loop2-holds c = none-yet _
+loop2-holds c = c .before .before .before .before .before .before .pre .1
 
 mul-index-3 : tie.Need-mul-index-3 Inv-loop μ-loop Inv-loop2 μ-loop2
 mul-index-3 c = omega (arith, place c)
@@ -187,8 +187,8 @@ element-copy-out-chain c = c .readable .ensures .within
 shade-requires : tie.Need-shade-requires Inv-loop μ-loop Inv-loop2 μ-loop2
 shade-requires c κs = search needs
 
-array-write-colours : tie.Need-array-write-colours Inv-loop μ-loop Inv-loop2 μ-loop2
-array-write-colours c = place (c .before .before .before .before .before)
+element-write-colours : tie.Need-element-write-colours Inv-loop μ-loop Inv-loop2 μ-loop2
+element-write-colours c = place (c .before .before .before .before .before)
 
 add-p : tie.Need-add-p Inv-loop μ-loop Inv-loop2 μ-loop2
 add-p c = omega (arith, place (c .before .before .before .before .before))
@@ -204,10 +204,10 @@ loop2-again c =
     let loop = test .before in
     let start = loop .before .before .before .before .before .before .before in
     let b = start .args .t1 in
-    let is = start .pre in
+    let is = start .pre .0 in
     let p = loop .loop2 .p in
     let low = place test in
-    points.more (at (coloursOf b)) _ p _ (loop .loop2 .inv) low
+    one-read b _ p _ (loop .loop2 .inv) low (omega (arith, test .loop2-test .taken, loop .before .area .ensures))
     (c .shade .ensures ∙ shade-read b is p low _ (owned .index3 .ensures) _ (read .readable .ensures) _ ∙ colour-told b is p)
 
 returns : tie.Need-returns Inv-loop μ-loop Inv-loop2 μ-loop2
@@ -228,7 +228,12 @@ returns c =
           all _ _ _ (b .height) (b .width) (near .before .two-to-1dim .result) (near .neighbours .result) (near .neighbours .ensures) _ _ _ _
           (loop .loop .inv) (done .loop-test .left);
       colours =
-          whole (at (coloursOf b)) _ _ (read .loop2 .inv)
+          whole (at (coloursOf b)) _ _
+          (record {
+            long = read .loop2 .inv .long;
+            read = read .loop2 .inv .read;
+            rest = λ k beyond. read .loop2 .inv .rest k (omega (arith, read .before .area .ensures, c .loop2-test .left, beyond));
+          })
           (λ k beyond low.
           List·getD-eq-default (coloursOf b) 0 {n = k} (omega (arith, length-colours b, read .before .area .ensures, c .loop2-test .left)));
     }
@@ -271,7 +276,7 @@ look-at-spec =
     mul-chain
     element-copy-out-chain
     shade-requires
-    array-write-colours
+    element-write-colours
     add-p
     loop2-less
     loop2-again

@@ -15,7 +15,7 @@ use Rattle.playing.proofs.stone.finished.Tie as tie
 
 -- the way back
 abbrev mover : tie.After-record-by → tie.After-player-of
-mover c = c .before .before .before
+mover c = c .before
 
 abbrev begin : tie.After-record-by → tie.Start
 begin c = mover c .before .before

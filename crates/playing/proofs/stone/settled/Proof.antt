@@ -6,7 +6,7 @@ use Rattle.rules.specs.Records.{recordOf, capacity}
 use Rattle.rules.specs.Laws.Lists.{not-both}
 use Rattle.rules.specs.Laws.Records.{length-record}
 use Rattle.board.specs.Board.{coloursOf}
-use Rattle.looking.specs.Laws.Sight.{sees-packing, sees-record}
+use Rattle.looking.specs.Laws.Sight.{unread, sees-packing, sees-record}
 use Rattle.game.specs.Clock.{gameOf}
 use Rattle.game.specs.View.{RoomIn}
 use Rattle.playing.specs.Laws.Stone.{laying, left-found, shown-ready, finished-tested}
@@ -39,20 +39,20 @@ lay-requires c κs =
     )
 
 look-at-requires : tie.Need-look-at-requires
-look-at-requires c κs = search needs
+look-at-requires c κs = (c .before .lay .ensures .board, unread _)
 
 record-by-requires : tie.Need-record-by-requires
 record-by-requires c κs =
-    let looked = c .before .before in
-    let l = looked .before in
-    sees-packing (l .lay .result .board) (l .lay .ensures .board) _ _ _ (looked .look-at .ensures)
+    let looked = c .before in
+    let l = looked .before .before in
+    sees-packing (l .lay .result .board) (l .lay .ensures .board) _ _ _ _ (looked .look-at .ensures)
 
 -- the record of the board that is laid
 left-record : (c : tie.After-record-by) → c .record-by .result ≡ recordOf (coloursOf (laid c .lay .result .board))
 left-record c =
-    let looked = c .before .before .before in
-    let l = looked .before in
-    c .record-by .ensures ∙ sees-record (l .lay .result .board) (l .lay .ensures .board) _ _ _ (looked .look-at .ensures)
+    let looked = c .before .before in
+    let l = looked .before .before in
+    c .record-by .ensures ∙ sees-record (l .lay .result .board) (l .lay .ensures .board) _ _ _ _ (looked .look-at .ensures)
 
 is-recorded-requires : tie.Need-is-recorded-requires
 unfolding gameOf RoomIn capacity
@@ -64,7 +64,7 @@ finished-requires : tie.Need-finished-requires
 finished-requires c κs =
     let s = begin (laid (c .before .before .before .before) .before) in
     let a = s .args in
-    shown-ready (a .board) (a .sight) (a .clock) _ _ _ (s .pre .shown)
+    shown-ready (a .board) (a .sight) (a .colours .now) (a .clock) _ _ _ (s .pre .shown)
 
 same-length : tie.Need-same-length
 same-length c = search needs
@@ -78,13 +78,13 @@ returns c row column is w =
     let l = laid by in
     let a = begin (l .before) .args in
     let g = gameOf (a .board) (a .clock) in
-    finished-tested (a .board) (a .sight) (a .clock) (a .history .now) row column is (w .told) (w .its) (w .passes)
+    finished-tested (a .board) (a .sight) (a .colours .now) (a .clock) (a .history .now) row column is (w .told) (w .its) (w .passes)
     _
     (λ _. found .is-recorded .ensures ∙ left-found g (a .history .now) row column (is .state) (is .room) (l .lay .result) (is .sees .point) (l .before .player-of .ensures)
     (l .lay .ensures) (left-record by))
     (λ n. absurd (not-both (w .waits) n))
     _ _
-    (done .finished .ensures (coloursOf (a .board)) (sees-record (a .board) (is .state .board) row column (a .sight) (is .sees)))
+    (done .finished .ensures (coloursOf (a .board)) (sees-record (a .board) (is .state .board) row column (a .colours .now) (a .sight) (is .sees)))
 
 pub settled-spec : {M : Type 1} → statement M
 settled-spec =

@@ -22,7 +22,7 @@ abbrev begin : tie.After-first-answer → tie.Start
 begin c = toldBy c .before .before
 
 abbrev Looks : tie.After-first-answer → Board → Type 0
-Looks c b = let a = begin c .args in Shown b (a .sight) (a .clock) (length (a .history .now)) (a .row) (a .column)
+Looks c b = let a = begin c .args in Shown b (a .sight) (a .colours .now) (a .clock) (length (a .history .now)) (a .row) (a .column)
 
 told : (c : tie.After-first-answer) (b : Board) → Looks c b →
     let a = begin c .args in ToldAt (gameOf b (a .clock)) (a .clock .flags) (a .row) (a .column) (toldBy c .told-by .result)
@@ -33,7 +33,7 @@ first : (c : tie.After-first-answer) → c .first-answer .result ≡ firstAnswer
 first c = c .first-answer .ensures ∙ ap (firstAnswer (begin c .args .clock .passes)) (c .before .known-answer .ensures)
 
 told-by-requires : tie.Need-told-by-requires
-told-by-requires c κs = search needs
+told-by-requires c κs = c .before .pre .packing .long
 
 known-answer-requires : tie.Need-known-answer-requires
 known-answer-requires c κs = search needs
@@ -92,10 +92,10 @@ returns-3 c b is =
     let f = e .before in
     let a = begin f .args in
     let t = toldBy f .told-by .result in
-    let its = done .finished .ensures (coloursOf b) (sees-record b (is .state .board) (a .row) (a .column) (a .sight) (is .sees)) in
+    let its = done .finished .ensures (coloursOf b) (sees-record b (is .state .board) (a .row) (a .column) (a .colours .now) (a .sight) (is .sees)) in
     let settled = sym (said .is-undecided .ensures) ∙ last .if2 .left in
     record {
-      decided = λ _. finished-tested b (a .sight) (a .clock) (a .history .now) (a .row) (a .column) is t (told f b is) (sym (first f) ∙ e .if1 .left)
+      decided = λ _. finished-tested b (a .sight) (a .colours .now) (a .clock) (a .history .now) (a .row) (a .column) is t (told f b is) (sym (first f) ∙ e .if1 .left)
           _ (λ y. absurd (not-both y settled)) (λ _. refl) _ _ its;
       waits = λ y. absurd (not-both y (its .decided));
       lent = λ y. absurd (not-both y (its .decided));
