@@ -1,2 +1,4 @@
 // Floor 5, the desk: what was read is done, and told.
+#![tactic(auto)]
+
 pub mod act;

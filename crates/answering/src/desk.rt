@@ -13,7 +13,7 @@ pub const REPLY_BYTES: usize = MAX_LINE + 1;
 const LINE_FEED: u8 = 10;
 
 // The game after the line, how many bytes of history it is to be lent from now on, and how many bytes the reply has.
-#[derive(Drop)]
+#[derive(Clone, Copy)]
 pub struct Replied {
     pub game: Game,
     pub lent: usize,

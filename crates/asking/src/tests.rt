@@ -23,7 +23,7 @@ use points::stones::EMPTY;
 use queries::goban::TestAnswer;
 
 // The tests that need no history.
-#[derive(Drop)]
+#[derive(Clone, Copy)]
 pub enum Test {
     Capture,
     Suicide,

@@ -7,7 +7,7 @@ use owning::owners::NO_CHAIN;
 use points::sizes::{MAX_AREA, SLOTS};
 
 #[repr(C)]
-#[derive(Drop)]
+#[derive(Clone, Copy)]
 pub struct Board {
     pub height: u8,
     pub width: u8,

@@ -16,7 +16,7 @@ use points::sizes::{MAX_AREA, SLOTS, is_side};
 use points::stones::{BLACK, WHITE};
 
 // What the judge found: whether the board is true, and the stones of each colour on a true board.
-#[derive(Drop)]
+#[derive(Clone, Copy)]
 pub struct Verdict {
     pub good: bool,
     pub black: u32,

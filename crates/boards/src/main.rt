@@ -1,4 +1,6 @@
 // Boards made by hand: built from colours, drawn and asked. What it writes is known by heart and stands in `stdout`.
+#![tactic(auto)]
+
 ghost use Rattle.io.specs.Counts.{IsPrefixLen};
 
 use board::goban::Board;

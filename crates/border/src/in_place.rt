@@ -65,7 +65,7 @@ pub extern "C" fn samtrekhu_stone_in_place(
 
 // What a replay answers beside the game.
 #[repr(C)]
-#[derive(Drop)]
+#[derive(Clone, Copy)]
 pub struct ReplayedInPlace {
     // how many were accepted
     pub entries: usize,

@@ -9,7 +9,7 @@ use sets::liberties::empty_liberties;
 
 // One chain: its stones go round from origin to last and back by the board's links. Its slot is free if the count is 0.
 #[repr(C)]
-#[derive(Drop)]
+#[derive(Clone, Copy)]
 pub struct Chain {
     pub liberties: [u8; LIBERTY_BYTES],
     pub colour: u8,
@@ -19,7 +19,7 @@ pub struct Chain {
 }
 
 // Where a free slot is found.
-#[derive(Drop)]
+#[derive(Clone, Copy)]
 pub enum Slot {
     At(usize),
     Full,

@@ -8,7 +8,7 @@ use points::sizes::MAX_AREA;
 use points::stones::{EMPTY, colour_at};
 
 // Off the board, a point where a stone stands, or an empty point.
-#[derive(Drop)]
+#[derive(Clone, Copy)]
 pub enum Spot {
     Off,
     Stone,

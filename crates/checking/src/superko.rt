@@ -22,7 +22,7 @@ use points::sizes::MAX_AREA;
 use points::stones::EMPTY;
 
 // What is told of a point before any stone is laid: the number that is answered, or that the records decide, between 0 and 8.
-#[derive(Drop)]
+#[derive(Clone, Copy)]
 pub enum Told {
     Answer(u8),
     IfRecorded,

@@ -15,7 +15,7 @@ use points::sizes::SLOTS;
 use vetting::answers::answer_of;
 
 #[repr(C)]
-#[derive(Drop)]
+#[derive(Clone, Copy)]
 pub struct SizeAnswer {
     pub answer: u8,
     pub height: u8,
@@ -23,14 +23,14 @@ pub struct SizeAnswer {
 }
 
 #[repr(C)]
-#[derive(Drop)]
+#[derive(Clone, Copy)]
 pub struct HashAnswer {
     pub answer: u8,
     pub hash: u64,
 }
 
 #[repr(C)]
-#[derive(Drop)]
+#[derive(Clone, Copy)]
 pub struct StonesAnswer {
     pub answer: u8,
     pub black: usize,
@@ -38,7 +38,7 @@ pub struct StonesAnswer {
 }
 
 #[repr(C)]
-#[derive(Drop)]
+#[derive(Clone, Copy)]
 pub struct ChainsAnswer {
     pub answer: u8,
     pub chains: usize,

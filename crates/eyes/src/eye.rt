@@ -13,7 +13,7 @@ use points::sizes::MAX_AREA;
 use points::stones::{EMPTY, colour_at, other};
 
 // What a corner says: the point is an eye, it is none, or the next corner decides.
-#[derive(Drop)]
+#[derive(Clone, Copy)]
 pub enum Said {
     Eye,
     NoEye,

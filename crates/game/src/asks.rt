@@ -16,13 +16,13 @@ use points::coord::Place;
 use points::stones::{BLACK, WHITE};
 
 // The player that a resignation named.
-#[derive(Drop)]
+#[derive(Clone, Copy)]
 pub enum Outcome {
     Open,
     Named(u8),
 }
 
-#[derive(Drop)]
+#[derive(Clone, Copy)]
 pub struct Facts {
     pub answer: u8,
     pub height: u8,

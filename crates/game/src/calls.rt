@@ -13,14 +13,14 @@ use points::sizes::{MAX_FLAGS, is_side};
 use points::stones::{BLACK, EMPTY, WHITE, other};
 
 #[repr(C)]
-#[derive(Drop)]
+#[derive(Clone, Copy)]
 pub struct Answered {
     pub answer: u8,
     pub game: Game,
 }
 
 // What a call gives that leaves the board alone: the answer, and the numbers.
-#[derive(Drop)]
+#[derive(Clone, Copy)]
 pub struct Ticked {
     pub answer: u8,
     pub clock: Clock,

@@ -6,7 +6,7 @@ use crate::state::{Game, Tally};
 use board::goban::Board;
 
 // All of a game but its board.
-#[derive(Drop)]
+#[derive(Clone, Copy)]
 pub struct Clock {
     pub flags: u8,
     pub turn: u8,

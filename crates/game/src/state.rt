@@ -6,14 +6,14 @@ pub const NO_POINT: u16 = u16::MAX;
 
 // A number for each player.
 #[repr(C)]
-#[derive(Drop)]
+#[derive(Clone, Copy)]
 pub struct Tally {
     pub black: u32,
     pub white: u32,
 }
 
 #[repr(C)]
-#[derive(Drop)]
+#[derive(Clone, Copy)]
 pub struct Game {
     pub board: Board,
     pub flags: u8,

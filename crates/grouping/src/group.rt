@@ -16,7 +16,7 @@ use vetting::answers::{answer_at, answer_at_both};
 
 // The chain at a point, if one is present: its colour, its stones, its liberties, whether it has exactly one, and its least point.
 #[repr(C)]
-#[derive(Drop)]
+#[derive(Clone, Copy)]
 pub struct ChainAnswer {
     pub answer: u8,
     pub present: bool,

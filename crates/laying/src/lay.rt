@@ -21,7 +21,7 @@ use steps::put::{opened, without};
 use steps::remove::remove_chain;
 
 // The board after the stone, how many enemy and own stones were removed, and the ko point.
-#[derive(Drop)]
+#[derive(Clone, Copy)]
 pub struct Laid {
     pub board: Board,
     pub taken: u16,

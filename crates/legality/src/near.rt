@@ -9,7 +9,7 @@ use points::stones::{EMPTY, other};
 
 // What stands beside a point, side by side in the order of the points beside it: the first `count` places of each array hold the
 // colours, and the liberties and stones of the chains, 0 at an empty point; the others hold 0.
-#[derive(Drop)]
+#[derive(Clone, Copy)]
 pub struct Near {
     pub count: usize,
     pub colours: [u8; 4],
@@ -18,7 +18,7 @@ pub struct Near {
 }
 
 // One of those places.
-#[derive(Drop)]
+#[derive(Clone, Copy)]
 pub struct Beside {
     pub colour: u8,
     pub liberties: u16,

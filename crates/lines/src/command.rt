@@ -1,7 +1,7 @@
 // What a line can be read as. Numbers that no byte holds are read as the largest byte.
 
 // What is wrong with a line.
-#[derive(Drop)]
+#[derive(Clone, Copy)]
 pub enum Fault {
     // more bytes than a line may have
     Long,
@@ -25,7 +25,7 @@ pub enum Fault {
 }
 
 // The first word of a line.
-#[derive(Drop)]
+#[derive(Clone, Copy)]
 pub enum Name {
     New,
     Handicap,
@@ -40,7 +40,7 @@ pub enum Name {
     Other,
 }
 
-#[derive(Drop)]
+#[derive(Clone, Copy)]
 pub enum Read {
     // the line is given back
     Echo,

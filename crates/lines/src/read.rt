@@ -109,7 +109,7 @@ pub fn read_resign(text: &[u8], from: usize) -> Read
 }
 
 // A spot in one number, and the place behind it.
-#[derive(Drop)]
+#[derive(Clone, Copy)]
 struct NextSpot {
     spot: u16,
     next: usize,

@@ -20,7 +20,7 @@ use viewing::view::view_of;
 
 // The number of the answer, and how many places were filled: none where the call is refused.
 #[repr(C)]
-#[derive(Drop)]
+#[derive(Clone, Copy)]
 pub struct Listed {
     pub number: u8,
     pub count: usize,

@@ -16,7 +16,7 @@ use points::stones::EMPTY;
 use sets::liberties::number_of_liberties;
 
 // Of each point the colour, and the liberties and stones of the chain there, 0 at an empty point.
-#[derive(Drop)]
+#[derive(Clone, Copy)]
 pub struct Seen {
     pub colours: [u8; MAX_AREA],
     pub liberties: [u16; MAX_AREA],
@@ -25,7 +25,7 @@ pub struct Seen {
 
 // What is seen of a board for a stone at a row and a column: with the colours of all points, which are lent beside it, all that the tests and the record
 // ask of the board, so that they need no copy of it.
-#[derive(Drop)]
+#[derive(Clone, Copy)]
 pub struct Sight {
     pub height: u8,
     pub width: u8,

@@ -12,7 +12,7 @@ use points::sizes::MAX_AREA;
 use points::stones::{BLACK, EMPTY};
 
 // What going through the spots gives: the answer, and the colours of the points with the stones up to there.
-#[derive(Drop)]
+#[derive(Clone, Copy)]
 pub struct Marked {
     pub answer: u8,
     pub colours: [u8; MAX_AREA],

@@ -12,7 +12,7 @@ use points::stones::EMPTY;
 
 // What a call that makes a board gives: the answer, and the board.
 #[repr(C)]
-#[derive(Drop)]
+#[derive(Clone, Copy)]
 pub struct Placed {
     pub answer: u8,
     pub board: Board,

@@ -32,7 +32,7 @@ use points::sizes::{MAX_AREA, MAX_STONES};
 use points::stones::{EMPTY, other};
 
 // What the tests answer, and of an accepted stone its point, its colour and how many records there are with the present board's.
-#[derive(Drop)]
+#[derive(Clone, Copy)]
 pub struct Turn {
     pub answer: u8,
     // the records decide and were not looked through yet: the rest says nothing

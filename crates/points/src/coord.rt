@@ -9,14 +9,14 @@ ghost use Rattle.points.specs.Around.{Holds, Put};
 pub use grid::coord::{area, column_of, is_coord_valid, on_board, row_of, two_to_1dim};
 
 // Where a step leads: off the board, or to a point.
-#[derive(Drop)]
+#[derive(Clone, Copy)]
 pub enum Place {
     Off,
     At(usize),
 }
 
 // One step along a row or a column: to the lesser, none, to the greater.
-#[derive(Drop)]
+#[derive(Clone, Copy)]
 pub enum Shift {
     Back,
     Stay,
@@ -24,7 +24,7 @@ pub enum Shift {
 }
 
 // The points beside a point: the first `count` places hold them, the others 0.
-#[derive(Drop)]
+#[derive(Clone, Copy)]
 pub struct Around {
     pub count: usize,
     pub points: [u16; 4],

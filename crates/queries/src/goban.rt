@@ -15,7 +15,7 @@ use points::stones::EMPTY;
 use vetting::answers::answer_at;
 
 #[repr(C)]
-#[derive(Drop)]
+#[derive(Clone, Copy)]
 pub struct ColourAnswer {
     pub answer: u8,
     pub colour: u8,
@@ -23,14 +23,14 @@ pub struct ColourAnswer {
 
 // Whether what was asked holds.
 #[repr(C)]
-#[derive(Drop)]
+#[derive(Clone, Copy)]
 pub struct TestAnswer {
     pub answer: u8,
     pub holds: bool,
 }
 
 // What owns a point: the chain in a slot, or none.
-#[derive(Drop)]
+#[derive(Clone, Copy)]
 pub enum Owner {
     Slot(usize),
     Nobody,

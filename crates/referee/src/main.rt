@@ -1,4 +1,6 @@
 // The referee at a desk: one call a line on standard input, one reply a line on standard output.
+#![tactic(auto)]
+
 fn main() {
     serving::serve();
 }

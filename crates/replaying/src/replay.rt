@@ -21,7 +21,7 @@ use points::stones::EMPTY;
 
 // A row and a column count only where the kind is a stone.
 #[repr(C)]
-#[derive(Drop)]
+#[derive(Clone, Copy)]
 pub struct Move {
     pub kind: u8,
     pub row: u8,
@@ -29,7 +29,7 @@ pub struct Move {
 }
 
 #[repr(C)]
-#[derive(Drop)]
+#[derive(Clone, Copy)]
 pub struct Replayed {
     // how many were accepted
     pub entries: usize,

@@ -9,7 +9,7 @@ use playing::count::ko_number;
 use points::stones::EMPTY;
 
 #[repr(C)]
-#[derive(Drop)]
+#[derive(Clone, Copy)]
 pub struct Facts {
     pub answer: u8,
     pub height: u8,

@@ -1,4 +1,6 @@
 // Some thousand calls with the crate's answers to them, played through the referee's calls: `compare/sample/make` made its files.
+#![tactic(auto)]
+
 fn main() {
     serving::serve();
 }

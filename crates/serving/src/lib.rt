@@ -1,4 +1,6 @@
 // Lines come in on standard input, and each reply goes out on standard output as soon as its line has ended.
+#![tactic(auto)]
+
 ghost use Rattle.std.specs.Prelude.{◌≡◌, ◌≤◌, length};
 ghost use Rattle.spelling.specs.Number.{max_lent};
 ghost use Rattle.serving.specs.Kept.{Keeps};
@@ -15,14 +17,14 @@ const LINE_FEED: u8 = 10;
 const LINE_BYTES: usize = MAX_LINE + 2;
 
 // The game, how many bytes of history it is lent, and how many bytes of a line are kept that has not ended yet.
-#[derive(Drop)]
+#[derive(Clone, Copy)]
 struct Desk {
     game: Game,
     lent: usize,
     kept: usize,
 }
 
-#[derive(Drop)]
+#[derive(Clone, Copy)]
 struct Turn {
     desk: Desk,
     more: bool,

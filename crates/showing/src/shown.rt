@@ -34,7 +34,7 @@ pub fn empty_points(game: Game, buffer: &mut [u16]) -> Listed
 
 // A board, with the number of the answer.
 #[repr(C)]
-#[derive(Drop)]
+#[derive(Clone, Copy)]
 pub struct BoardAnswer {
     pub answer: u8,
     pub board: Board,

@@ -17,33 +17,33 @@ const LAST_DIGIT: u8 = 57;
 const MOST: usize = MAX_LENT + 1;
 
 // What a word writes, or what the words from here on write where they must be one number.
-#[derive(Drop)]
+#[derive(Clone, Copy)]
 pub enum Number {
     Is(usize),
     Not,
 }
 
 // The next number and the place behind it; no word is left; or a word that is no number.
-#[derive(Drop)]
+#[derive(Clone, Copy)]
 pub enum Next {
     Number(usize, usize),
     End,
     Bad,
 }
 
-#[derive(Drop)]
+#[derive(Clone, Copy)]
 pub enum Two {
     Are(usize, usize),
     Not,
 }
 
-#[derive(Drop)]
+#[derive(Clone, Copy)]
 pub enum Three {
     Are(usize, usize, usize),
     Not,
 }
 
-#[derive(Drop)]
+#[derive(Clone, Copy)]
 pub enum Four {
     Are(usize, usize, usize, usize),
     Not,

@@ -10,7 +10,7 @@ const CARRIAGE_RETURN: u8 = 13;
 const SPACE: u8 = 32;
 
 // Where a word stands. Start and end are the same where there is none.
-#[derive(Drop)]
+#[derive(Clone, Copy)]
 pub struct Word {
     pub start: usize,
     pub end: usize,

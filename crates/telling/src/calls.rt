@@ -15,7 +15,7 @@ use playing::stone::stone;
 use writing::figures::put_number;
 
 // The game after a call, how many bytes of history it is lent then, and where the text of the reply ends.
-#[derive(Drop)]
+#[derive(Clone, Copy)]
 pub struct Told {
     pub game: Game,
     pub lent: usize,

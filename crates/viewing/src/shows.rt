@@ -10,7 +10,7 @@ use points::sizes::MAX_AREA;
 use points::stones::EMPTY;
 
 // What is asked at a point: its chain's stones or liberties, the points, stones or empty points beside it, or the chains beside it.
-#[derive(Drop)]
+#[derive(Clone, Copy)]
 pub enum Local {
     Chain,
     Liberties,
@@ -21,7 +21,7 @@ pub enum Local {
 }
 
 // What is asked: the stones, the points of a colour, or something at a row and a column.
-#[derive(Drop)]
+#[derive(Clone, Copy)]
 pub enum Question {
     Stones,
     Coloured(u8),

@@ -10,7 +10,7 @@ use points::stones::EMPTY;
 // Where no chain is: the number of no point.
 pub const NO_POINT: u16 = MAX_AREA as u16;
 
-#[derive(Drop)]
+#[derive(Clone, Copy)]
 pub struct View {
     pub colours: [u8; MAX_AREA],
     pub leads: [u16; MAX_AREA],
