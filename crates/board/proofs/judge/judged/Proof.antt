@@ -15,7 +15,7 @@ use Rattle.rules.specs.Points.{area}
 use Rattle.rules.specs.Calls.{side_ok}
 use Rattle.rules.specs.Colours.{black, white}
 use Rattle.rules.specs.Game.{Player, stones}
-use Rattle.rules.specs.Laws.Lists.{decided, get_d_default}
+use Rattle.rules.proofs.Laws.Lists.{decided, get_d_default}
 use Rattle.chains.specs.declared.group.Chain.{Chain}
 use Rattle.chains.specs.contracts.group.Chain as chain
 use Rattle.chains.specs.Group.{free_chain}

@@ -6,8 +6,8 @@ use Prim.Native.Nat.{◌<◌}
 use native.Mathlib.Omega.{arith}
 use lib.Dec.{eqb}
 use borrow.Author.Tests.{not-true, not-false, eq-eqb, ne_eqb}
-use Rattle.rules.specs.Laws.Lists.{not-both}
-use Rattle.rules.specs.Laws.Colours.{player-stone}
+use Rattle.rules.proofs.Laws.Lists.{not-both}
+use Rattle.rules.proofs.Laws.Colours.{player-stone}
 use Rattle.owning.specs.Owners.{owner_in, ring}
 use Rattle.board.specs.Judge.{player, counted, liberties_good, chain_good}
 use Rattle.owning.specs.Laws.Lists.{and-fails, then-fails}

@@ -3,7 +3,7 @@ use mathlib.Core.Path.{◌∙◌}
 use borrow.Author.Rules.{rules}
 use borrow.Author.Tests.{not-true, not-false}
 use Rattle.rules.specs.Answers.{number}
-use Rattle.rules.specs.Laws.Lists.{not-both}
+use Rattle.rules.proofs.Laws.Lists.{not-both}
 use Rattle.game.specs.View.{view_of, TrueState, RoomIn}
 use Rattle.game.specs.Judge.{Decides}
 use Rattle.game.specs.Laws.Judge.{decides-with}

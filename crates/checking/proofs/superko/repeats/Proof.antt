@@ -6,7 +6,7 @@ use borrow.Author.Rules.{rules}
 use Rattle.rules.specs.Records.{record_of, capacity, recorded}
 use Rattle.rules.specs.Move.{played}
 use Rattle.rules.specs.Calls.{resulting}
-use Rattle.rules.specs.Laws.Records.{length-record}
+use Rattle.rules.proofs.Laws.Records.{length-record}
 use Rattle.board.specs.Board.{colours_of}
 use Rattle.history.specs.History.{among}
 use Rattle.history.specs.Laws.History.{among-recorded}

@@ -14,7 +14,7 @@ use Rattle.listing.specs.Lists.{length_answer}
 use Rattle.viewing.specs.Front.{Front}
 use Rattle.viewing.specs.Laws.View.{view-colours}
 use Rattle.listing.specs.Laws.Seen.{view-seen}
-use Rattle.rules.specs.Laws.Answers.{accepts-zero}
+use Rattle.rules.proofs.Laws.Answers.{accepts-zero}
 use Rattle.listing.specs.Laws.Answers.{length-enough, left-refused, left-filled}
 use borrow.Author.Rules.{rules}
 use Rattle.drawing.proofs.draw.colours_true.Statement.{statement}

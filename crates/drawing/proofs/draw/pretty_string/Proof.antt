@@ -1,5 +1,5 @@
 -- `pretty_string`: the judge says which of the two it is.
-use Rattle.rules.specs.Laws.Lists.{not-both}
+use Rattle.rules.proofs.Laws.Lists.{not-both}
 use Rattle.listing.specs.Laws.Answers.{answered-damaged, answered-true}
 use borrow.Author.Rules.{rules}
 use Rattle.drawing.proofs.draw.pretty_string.Statement.{statement}

@@ -5,7 +5,7 @@ use borrow.Author.Tests.{eq-eqb, ne_eqb}
 use Rattle.rules.specs.Colours.{at}
 use Rattle.rules.specs.Points.{area, index}
 use Rattle.rules.specs.Picture.{sign}
-use Rattle.rules.specs.Laws.Points.{index_on}
+use Rattle.rules.proofs.Laws.Points.{index_on}
 use borrow.Author.Rules.{rules}
 use Rattle.drawing.proofs.draw.sign.Statement.{statement}
 use Rattle.drawing.proofs.draw.sign.Tie as tie

@@ -2,7 +2,7 @@
 use mathlib.Core.Path.{refl}
 use borrow.Author.Tests.{not-true, not-false}
 use Rattle.rules.specs.Answers.{number}
-use Rattle.rules.specs.Laws.Lists.{not-both}
+use Rattle.rules.proofs.Laws.Lists.{not-both}
 use Rattle.game.specs.View.{view_of, TrueState}
 use Rattle.game.specs.Asks.{no_facts}
 use Rattle.game.specs.Judge.{Decides}

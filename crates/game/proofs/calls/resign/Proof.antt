@@ -3,7 +3,7 @@ use mathlib.Core.List.{[]}
 use borrow.Author.Tests.{not-true, not-false}
 use Rattle.rules.specs.Answers.{number}
 use Rattle.rules.specs.Calls.{resign}
-use Rattle.rules.specs.Laws.Lists.{not-both}
+use Rattle.rules.proofs.Laws.Lists.{not-both}
 use Rattle.game.specs.View.{turn_of, view_of}
 use Rattle.game.specs.Laws.Promise.{alone-damaged}
 use Rattle.game.specs.Laws.After.{alone-ticked}

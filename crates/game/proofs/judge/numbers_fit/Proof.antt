@@ -11,7 +11,7 @@ use Rattle.rules.specs.Sizes.{max_stones}
 use Rattle.rules.specs.Points as rules
 use Rattle.rules.specs.Colours.{black, white}
 use Rattle.rules.specs.Game.{stones}
-use Rattle.rules.specs.Laws.Lists.{not-both}
+use Rattle.rules.proofs.Laws.Lists.{not-both}
 use Rattle.board.specs.declared.goban.Board.{Board}
 use Rattle.board.specs.Board.{colours_of}
 use Rattle.game.specs.declared.state.Tally.{Tally}

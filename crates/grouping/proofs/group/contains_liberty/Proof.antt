@@ -7,7 +7,7 @@ use borrow.Author.Rules.{rules}
 use Rattle.rules.specs.Sizes.{slots}
 use Rattle.rules.specs.Points.{index}
 use Rattle.rules.specs.Answers.{number}
-use Rattle.rules.specs.Laws.Lists.{or-none-right}
+use Rattle.rules.proofs.Laws.Lists.{or-none-right}
 use Rattle.chains.specs.declared.group.Chain.{Chain}
 use Rattle.sets.specs.Liberties.{has}
 use Rattle.vetting.specs.Answered.{off_board}

@@ -10,7 +10,7 @@ use borrow.Author.Tests.{lt-ltb, le-ltb, eq-eqb, ne_eqb}
 use Rattle.rules.specs.Sizes.{hash_entries}
 use Rattle.rules.specs.Lists.{tabulate}
 use Rattle.rules.specs.Hash.{entry, stone_hash}
-use Rattle.rules.specs.Laws.Lists.{get_d_tabulate}
+use Rattle.rules.proofs.Laws.Lists.{get_d_tabulate}
 use Rattle.hashing.proofs.zobrist.stone_hash.Goals as goal
 
 entry_at : {xs : List ℕ} {k : ℕ} → xs ≡ tabulate entry 0 hash_entries → k < hash_entries → get_or xs k 0 ≡ entry k

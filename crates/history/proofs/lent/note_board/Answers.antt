@@ -2,7 +2,7 @@
 use mathlib.Core.Path.{sym, ap, ◌∙◌}
 use native.Mathlib.Omega.{arith}
 use lib.ListN.{length}
-use Rattle.rules.specs.Laws.Records.{length-record}
+use Rattle.rules.proofs.Laws.Records.{length-record}
 use Rattle.history.specs.History.{Adding}
 use Rattle.history.specs.Laws.History.{noted-before, noted-new, adding}
 use borrow.Author.Rules.{rules}

@@ -8,7 +8,7 @@ use lib.Seq.{paste, paste-zero}
 use borrow.Author.Rules.{rules}
 use Rattle.rules.specs.Sizes.{hash_bytes, colour_bytes}
 use Rattle.rules.specs.Colours.{at}
-use Rattle.rules.specs.Laws.Lists.{length-tabulate, get_or-tabulate-zero}
+use Rattle.rules.proofs.Laws.Lists.{length-tabulate, get_or-tabulate-zero}
 use Rattle.rules.specs.Records.{four_colours}
 use Rattle.history.specs.Packing.{colour_part}
 use Rattle.history.specs.Laws.Lists.{paste_more, paste-whole}

@@ -7,7 +7,7 @@ use native.Mathlib.Omega.{arith}
 use lib.Dec.{eqb, ltb}
 use borrow.Author.Rules.{rules}
 use borrow.Author.Tests.{lt-ltb, le-ltb, eq-eqb, ne_eqb}
-use Rattle.rules.specs.Laws.Lists.{equal_or_not}
+use Rattle.rules.proofs.Laws.Lists.{equal_or_not}
 use Rattle.sets.specs.Liberties.{number}
 use Rattle.laying.proofs.lay.is_dead.Statement.{statement}
 use Rattle.laying.proofs.lay.is_dead.Tie as tie

@@ -17,7 +17,7 @@ use Rattle.rules.specs.Colours.{other}
 use Rattle.rules.specs.Flags.{SUICIDE, forbids}
 use Rattle.rules.specs.Game.{Player}
 use Rattle.rules.specs.Hash.{stone_hash}
-use Rattle.rules.specs.Laws.Colours.{other-player}
+use Rattle.rules.proofs.Laws.Colours.{other-player}
 use Rattle.points.specs.declared.coord.Around.{Around}
 use Rattle.chains.specs.declared.group.Chain.{Chain}
 use Rattle.chains.specs.Group.{new_chain, first_free}

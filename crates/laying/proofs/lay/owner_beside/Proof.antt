@@ -5,7 +5,7 @@ use native.Mathlib.Omega.{arith}
 use lib.ListN.{get_or, get_or-eq_default}
 use borrow.Author.Rules.{rules}
 use Rattle.rules.specs.Sizes.{slots}
-use Rattle.rules.specs.Laws.Lists.{get_d_default}
+use Rattle.rules.proofs.Laws.Lists.{get_d_default}
 use Rattle.laying.proofs.lay.owner_beside.Statement.{statement}
 use Rattle.laying.proofs.lay.owner_beside.Tie as tie
 

@@ -1,6 +1,6 @@
 -- `is_word`: what the comparison answers is the test of the rules.
 use borrow.Author.Rules.{rules}
-use Rattle.rules.specs.Laws.Lists.{same_answer, same-equal, same_self}
+use Rattle.rules.proofs.Laws.Lists.{same_answer, same-equal, same_self}
 use Rattle.lines.proofs.read.is_word.Goals as goal
 
 pub returns : goal.returns

@@ -12,7 +12,7 @@ use Rattle.viewing.specs.Seen.{passed, Seen, OnBoard}
 use Rattle.listing.specs.Lists.{list_answer, listed}
 use Rattle.viewing.specs.Front.{Front}
 use Rattle.listing.specs.Laws.Seen.{passed-listed, view-seen}
-use Rattle.rules.specs.Laws.Answers.{accepts-zero}
+use Rattle.rules.proofs.Laws.Answers.{accepts-zero}
 use Rattle.listing.specs.Laws.Answers.{accepted-list, left-refused, left-filled}
 use borrow.Author.Rules.{rules}
 use Rattle.listing.proofs.list.list_true.Statement.{statement}

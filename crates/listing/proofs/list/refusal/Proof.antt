@@ -6,8 +6,8 @@ use native.Mathlib.Omega.{arith}
 use borrow.Author.Tests.{lt-ltb, le-ltb}
 use Rattle.rules.specs.Answers.{OffBoard, BadColour, number}
 use Rattle.listing.specs.Lists.{length_answer}
-use Rattle.rules.specs.Laws.Answers.{accepts-zero, refuses-other, then-refused, then-accepted, refuses, passes, refused-then, passed_then}
-use Rattle.rules.specs.Laws.Calls.{off-not-on}
+use Rattle.rules.proofs.Laws.Answers.{accepts-zero, refuses-other, then-refused, then-accepted, refuses, passes, refused-then, passed_then}
+use Rattle.rules.proofs.Laws.Calls.{off-not-on}
 use borrow.Author.Rules.{rules}
 use Rattle.listing.proofs.list.refusal.Statement.{statement}
 use Rattle.listing.proofs.list.refusal.Tie as tie

@@ -12,7 +12,7 @@ use Rattle.rules.specs.Answers.{NoLiberty, number, accepts, refuse}
 use Rattle.rules.specs.Calls.{choked, size_answer, board_answer}
 use Rattle.placing.specs.Placing.{Stands, Outcome}
 use Rattle.making.specs.Laws.FromColours.{stands-placing, placed-sized}
-use Rattle.rules.specs.Laws.Answers.{zero-accepts, other-refuses}
+use Rattle.rules.proofs.Laws.Answers.{zero-accepts, other-refuses}
 use Rattle.placing.specs.Laws.Answers.{outcome-refused, outcome-accepted, outcome-as}
 use Rattle.making.specs.Laws.FromColours.{board-size, board-length, board-colour, board-choked}
 use Rattle.making.proofs.make.from_colours.Statement.{statement}

@@ -6,7 +6,7 @@ use lib.Dec.{leb}
 use Rattle.rules.specs.Sizes.{slots}
 use Rattle.rules.specs.Lists.{all, below}
 use Rattle.rules.specs.Points.{area}
-use Rattle.rules.specs.Laws.Lists.{get_d_default}
+use Rattle.rules.proofs.Laws.Lists.{get_d_default}
 use Rattle.owning.specs.Owners.{owner_in}
 use Rattle.owning.specs.Laws.Lists.{all-below-next}
 use borrow.Author.Rules.{rules}

@@ -11,7 +11,7 @@ use borrow.Author.Tests.{lt-ltb, le-ltb}
 use Rattle.rules.specs.Sizes.{max_area, slots}
 use Rattle.rules.specs.Lists.{all, below}
 use Rattle.rules.specs.Points.{area}
-use Rattle.rules.specs.Laws.Lists.{get_d_default}
+use Rattle.rules.proofs.Laws.Lists.{get_d_default}
 use Rattle.owning.specs.Owners.{owner_in, placed}
 use Rattle.owning.specs.Laws.Lists.{all-below-next}
 use borrow.Author.Rules.{rules}

@@ -4,7 +4,7 @@ use mathlib.Core.Bool.{Bool, not, ◌||◌}
 use native.Mathlib.Omega.{arith}
 use lib.Dec.{eqb}
 use Rattle.rules.specs.Sizes.{slots}
-use Rattle.rules.specs.Laws.Lists.{get_d_default}
+use Rattle.rules.proofs.Laws.Lists.{get_d_default}
 use Rattle.owning.specs.Owners.{owner_in, apart}
 use borrow.Author.Rules.{rules}
 use Rattle.owning.proofs.owners.apart.Goals as goal

@@ -6,7 +6,7 @@ use borrow.Author.Tests.{lt-ltb, le-ltb}
 use Rattle.rules.specs.Sizes.{max_area}
 use Rattle.rules.specs.Lists.{all, below}
 use Rattle.rules.specs.Points.{area}
-use Rattle.rules.specs.Laws.Lists.{or_left}
+use Rattle.rules.proofs.Laws.Lists.{or_left}
 use Rattle.owning.specs.Owners.{owner_in, apart, column_apart}
 use Rattle.owning.specs.Laws.Lists.{all-below, all-below-next}
 use borrow.Author.Rules.{rules}

@@ -11,7 +11,7 @@ use borrow.Author.Count.{below_none, below_more}
 use borrow.Author.Tests.{not-true, not-false, eqb-true, eq-eqb, ne_eqb}
 use Rattle.rules.specs.Sizes.{max_area, slots}
 use Rattle.rules.specs.Lists.{all, below}
-use Rattle.rules.specs.Laws.Lists.{and_left, get_or-within}
+use Rattle.rules.proofs.Laws.Lists.{and_left, get_or-within}
 use Rattle.chains.specs.declared.group.Chain.{Chain}
 use Rattle.chains.specs.Walk.{stepped}
 use Rattle.owning.specs.Owners.{owner_in, on_ring, ring}

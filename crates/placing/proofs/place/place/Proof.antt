@@ -9,7 +9,7 @@ use lib.ListN.{length}
 use Rattle.placing.specs.Placing.{Stands, Adding}
 use Rattle.placing.specs.Laws.SoFar.{SoFar, so-far-none, so-far-on, so-far-next, so-far-stuck, so-far-all, stands-free}
 use Rattle.placing.specs.Laws.Added.{added_none, added-laying, added-stuck, added-stone}
-use Rattle.rules.specs.Laws.Answers.{refuses, passes}
+use Rattle.rules.proofs.Laws.Answers.{refuses, passes}
 use Rattle.placing.specs.Laws.Answers.{outcome-refused, outcome-accepted, outcome-as}
 use Rattle.rules.specs.Colours.{at}
 use Rattle.rules.specs.Answers.{NoLiberty, number, accepts}

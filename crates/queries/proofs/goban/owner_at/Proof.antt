@@ -5,7 +5,7 @@ use lib.ListN.{get_or, get_or-eq_default}
 use borrow.Author.Tests.{lt-ltb, le-ltb}
 use borrow.Author.Rules.{rules}
 use Rattle.rules.specs.Sizes.{slots}
-use Rattle.rules.specs.Laws.Lists.{get_d_default}
+use Rattle.rules.proofs.Laws.Lists.{get_d_default}
 use Rattle.queries.specs.Goban.{owner_of}
 use Rattle.queries.proofs.goban.owner_at.Statement.{statement}
 use Rattle.queries.proofs.goban.owner_at.Tie as tie

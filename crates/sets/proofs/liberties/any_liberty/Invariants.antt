@@ -8,7 +8,7 @@ use borrow.Author.Tests.{lt-ltb, le-ltb}
 use Rattle.rules.specs.Sizes.{liberty_bytes}
 use Rattle.rules.specs.Lists.{count, below}
 use Rattle.sets.specs.Liberties.{has, number, LibertySet}
-use Rattle.rules.specs.Laws.Places.{count-below-zero}
+use Rattle.rules.proofs.Laws.Places.{count-below-zero}
 use Rattle.sets.specs.Laws.Bits.{ones-zero}
 use Rattle.sets.specs.Laws.Liberties.{count-byte, byte-some}
 use Rattle.sets.proofs.Arrays.{array-set}

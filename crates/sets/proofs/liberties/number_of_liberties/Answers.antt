@@ -7,7 +7,7 @@ use borrow.Author.Rules.{rules}
 use Rattle.rules.specs.Sizes.{liberty_bytes}
 use Rattle.rules.specs.Lists.{count, below}
 use Rattle.sets.specs.Liberties.{has, number, LibertySet}
-use Rattle.rules.specs.Laws.Places.{count-below-zero, count-below-le}
+use Rattle.rules.proofs.Laws.Places.{count-below-zero, count-below-le}
 use Rattle.sets.specs.Laws.Liberties.{count-byte}
 use Rattle.sets.proofs.Arrays.{array-set}
 use Rattle.sets.proofs.liberties.number_of_liberties.Goals.{Start}

@@ -6,7 +6,7 @@ use lib.ListN.{get_or, get_or-eq_default}
 use borrow.Author.Rules.{rules}
 use Rattle.rules.specs.Sizes.{slots}
 use Rattle.rules.specs.Points.{sides}
-use Rattle.rules.specs.Laws.Lists.{get_d_default}
+use Rattle.rules.proofs.Laws.Lists.{get_d_default}
 use Rattle.points.specs.Place.{place_of}
 use Rattle.steps.specs.Removing.{owner_there}
 use Rattle.steps.proofs.Turns.{gainer-nobody, gainer-self, gainer-other}

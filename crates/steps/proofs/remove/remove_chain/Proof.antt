@@ -6,7 +6,7 @@ use native.Mathlib.Omega.{arith}
 use borrow.Author.Rules.{rules}
 use lib.ListN.{length, get_or, take}
 use Rattle.rules.specs.Sizes.{max_area}
-use Rattle.rules.specs.Laws.Lists.{get_d_default}
+use Rattle.rules.proofs.Laws.Lists.{get_d_default}
 use Rattle.chains.specs.Group.{free_chain}
 use Rattle.board.specs.Board.{chain_in}
 use Rattle.steps.specs.Removing.{Points}

@@ -3,7 +3,7 @@ use mathlib.Core.Bool.{false}
 use mathlib.Core.Path.{◌≡◌}
 use borrow.Author.Rules.{rules}
 use Rattle.rules.specs.Answers.{number}
-use Rattle.rules.specs.Laws.Lists.{or_right}
+use Rattle.rules.proofs.Laws.Lists.{or_right}
 use Rattle.vetting.specs.Answered.{off_board}
 use Rattle.vetting.specs.Laws.Answered.{judged-kept, judged-beyond, judged-accepted, valid-says}
 use Rattle.vetting.proofs.answers.answer_at_both.Statement.{statement}

@@ -3,7 +3,7 @@ use mathlib.Core.Path.{refl}
 use borrow.Author.Tests.{not-true, not-false}
 use borrow.Author.Rules.{rules}
 use Rattle.rules.specs.Answers.{number}
-use Rattle.rules.specs.Laws.Lists.{not-both}
+use Rattle.rules.proofs.Laws.Lists.{not-both}
 use Rattle.vetting.specs.Laws.Answered.{judged-damaged, judged-accepted}
 use Rattle.vetting.proofs.answers.answer_of.Statement.{statement}
 use Rattle.vetting.proofs.answers.answer_of.Tie as tie

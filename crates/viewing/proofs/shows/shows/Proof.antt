@@ -4,7 +4,7 @@ use Prim.Native.Nat.{◌<◌}
 use native.Mathlib.Omega.{arith}
 use Rattle.rules.specs.Colours.{at}
 use Rattle.rules.specs.Points.{area, index}
-use Rattle.rules.specs.Laws.Points.{index_on}
+use Rattle.rules.proofs.Laws.Points.{index_on}
 use Rattle.viewing.specs.Seen.{OnBoard}
 use borrow.Author.Rules.{rules}
 use Rattle.viewing.proofs.shows.shows.Statement.{statement}

@@ -12,7 +12,7 @@ use Rattle.rules.specs.Sizes.{hash_bytes, colour_bytes, record_bytes}
 use Rattle.rules.specs.Lists.{tabulate}
 use Rattle.rules.specs.Hash.{hash}
 use Rattle.rules.specs.Records.{low_bytes, four_colours, record_of, capacity, stored, recorded, full, records_after, bytes_after}
-use Rattle.rules.specs.Laws.Lists.{decided, and_both, not-both, length-tabulate}
+use Rattle.rules.proofs.Laws.Lists.{decided, and_both, not-both, length-tabulate}
 
 pub length-record : (cols : List ℕ) → length (record_of cols) ≡ record_bytes
 unfolding record_of low_bytes

@@ -6,8 +6,8 @@ use mathlib.Core.List.Memᴰ.{cases_cons}
 use mathlib.Core.List.{List, ◌∷◌, Memᴰ}
 use Rattle.std.specs.Prelude.{◌≢◌, ℕ, zero, suc, ◌+◌, ◌≤◌, ◌<◌, length}
 use Rattle.rules.specs.Lists.{tabulate, has, Distinct}
-use Rattle.rules.specs.Laws.Lists.{decided, tabulate-mem, mem-tabulate, has-mem, has-not}
-use Rattle.rules.specs.Laws.Counting.{distinct-fewer}
+use Rattle.rules.proofs.Laws.Lists.{decided, tabulate-mem, mem-tabulate, has-mem, has-not}
+use Rattle.rules.proofs.Laws.Counting.{distinct-fewer}
 
 -- ---- A tabulated list
 

@@ -12,8 +12,8 @@ use native.Mathlib.Omega.{arith}
 use Rattle.std.proofs.Math.Arith.{digits_lt, digits_div, digits_mod}
 use Rattle.rules.specs.Lists.{has, Distinct}
 use Rattle.rules.specs.Points.{area, index, row, column, NextTo, Adjacent, Shift, back, stay, forth, shifted, joined, towards, sides, neighbours}
-use Rattle.rules.specs.Laws.Lists.{cond-some, mem-present, present-mem, present-fewer, has-not}
-use Rattle.rules.specs.Laws.Counting.{present-distinct}
+use Rattle.rules.proofs.Laws.Lists.{cond-some, mem-present, present-mem, present-fewer, has-not}
+use Rattle.rules.proofs.Laws.Counting.{present-distinct}
 
 -- ---- An index, its row and its column
 

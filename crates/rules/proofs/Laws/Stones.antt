@@ -7,8 +7,8 @@ use Rattle.rules.specs.Colours.{empty, at}
 use Rattle.rules.specs.Move.{removed}
 use Rattle.rules.specs.Game.{stones}
 use Rattle.rules.specs.Calls.{one_if}
-use Rattle.rules.specs.Laws.Lists.{and_left, and_right, and_both, or_cases, or_left, or_right, not-both, not_yes, decided, equal_or_not, same_answer, length-tabulate, get_or-tabulate-zero, get_d_set, mem_below}
-use Rattle.rules.specs.Laws.Counting.{below-distinct, length-pick, count_same, count-or, count_none, count-equal, count_most}
+use Rattle.rules.proofs.Laws.Lists.{and_left, and_right, and_both, or_cases, or_left, or_right, not-both, not_yes, decided, equal_or_not, same_answer, length-tabulate, get_or-tabulate-zero, get_d_set, mem_below}
+use Rattle.rules.proofs.Laws.Counting.{below-distinct, length-pick, count_same, count-or, count_none, count-equal, count_most}
 
 -- a list is what stands at its places
 pub count-tabulate : {A : Type 0} (f : A → Bool) (g : ℕ → A) (i n : ℕ) → count f (tabulate g i n) ≡ count (λ k. f (g k)) (tabulate (λ k. k) i n)

@@ -23,13 +23,13 @@ use Rattle.rules.specs.Flags.{SUICIDE, forbids}
 use Rattle.rules.specs.Tests.{in_atari, suicide}
 use Rattle.rules.specs.Move.{coloured, captured, played}
 use Rattle.rules.specs.Game.{Player, TrueColours}
-use Rattle.rules.specs.Laws.Lists.{and_left, and_right, and_both, decided, not-both, equal_or_not, any_some, mem_below}
-use Rattle.rules.specs.Laws.Counting.{count-other, count-two, below-distinct}
-use Rattle.rules.specs.Laws.Colours.{player-stone, player-cases, other-player, other-apart}
-use Rattle.rules.specs.Laws.Points.{neighbours-sym, neighbours-on, neighbours-not-self}
-use Rattle.rules.specs.Laws.Reach.{walk-last, walk-on, walk-reverse, walk_kept, walk-agree, walk-reaches}
-use Rattle.rules.specs.Laws.Flood.{reaches-decided, clear-length, clear-clearing}
-use Rattle.rules.specs.Laws.Chain.{liberty-of-chain}
+use Rattle.rules.proofs.Laws.Lists.{and_left, and_right, and_both, decided, not-both, equal_or_not, any_some, mem_below}
+use Rattle.rules.proofs.Laws.Counting.{count-other, count-two, below-distinct}
+use Rattle.rules.proofs.Laws.Colours.{player-stone, player-cases, other-player, other-apart}
+use Rattle.rules.proofs.Laws.Points.{neighbours-sym, neighbours-on, neighbours-not-self}
+use Rattle.rules.proofs.Laws.Reach.{walk-last, walk-on, walk-reverse, walk_kept, walk-agree, walk-reaches}
+use Rattle.rules.proofs.Laws.Flood.{reaches-decided, clear-length, clear-clearing}
+use Rattle.rules.proofs.Laws.Chain.{liberty-of-chain}
 
 -- ---- Clearing leaves no stone of its colour that does not reach empty, and takes no liberty from another
 

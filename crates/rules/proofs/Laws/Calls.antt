@@ -12,9 +12,9 @@ use Rattle.rules.specs.Answers.{Answer, Suicide, OffBoard, PointNotEmpty, number
 use Rattle.rules.specs.Tests.{suicide}
 use Rattle.rules.specs.Game.{Game, TrueGame, TrueColours, TrueSize}
 use Rattle.rules.specs.Calls.{side_ok, outside, off_board, taken, resulting, forbidden_answer, point_answer, stone_answer}
-use Rattle.rules.specs.Laws.Lists.{and_left, and_right, decided, not-both, or-none-left, or-none-right}
-use Rattle.rules.specs.Laws.Points.{index_on}
-use Rattle.rules.specs.Laws.Move.{played-move, played-true}
+use Rattle.rules.proofs.Laws.Lists.{and_left, and_right, decided, not-both, or-none-left, or-none-right}
+use Rattle.rules.proofs.Laws.Points.{index_on}
+use Rattle.rules.proofs.Laws.Move.{played-move, played-true}
 
 -- ---- The order of tests
 

@@ -8,9 +8,9 @@ use Rattle.rules.specs.Points.{area, neighbours}
 use Rattle.rules.specs.Reach.{Walk, Reaches}
 use Rattle.rules.specs.Flood.{chain, marked}
 use Rattle.rules.specs.Chain.{liberty, liberties}
-use Rattle.rules.specs.Laws.Lists.{and_left, and_right, and_both, any-yes, any_some, mem_below, count-some, count-positive}
-use Rattle.rules.specs.Laws.Points.{neighbours-sym, neighbours-on}
-use Rattle.rules.specs.Laws.Flood.{chain-marks, walk_from}
+use Rattle.rules.proofs.Laws.Lists.{and_left, and_right, and_both, any-yes, any_some, mem_below, count-some, count-positive}
+use Rattle.rules.proofs.Laws.Points.{neighbours-sym, neighbours-on}
+use Rattle.rules.proofs.Laws.Flood.{chain-marks, walk_from}
 
 module _ (h w : ℕ) (cols : List ℕ) (p : ℕ) where
   pub liberty-of-chain :

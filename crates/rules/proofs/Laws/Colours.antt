@@ -4,7 +4,7 @@ use Rattle.std.proofs.Common.{sym, ap, ◌∙◌, inl, inr, ⊎_elim, arith}
 use Rattle.std.proofs.Math.ListN.{get_or-eq_default}
 use Rattle.rules.specs.Colours.{empty, black, white, other, at}
 use Rattle.rules.specs.Game.{Player}
-use Rattle.rules.specs.Laws.Lists.{get_or-within}
+use Rattle.rules.proofs.Laws.Lists.{get_or-within}
 
 pub at-within : (cols : List ℕ) (p : ℕ) → at cols p ≢ empty → p < length cols
 unfolding at

@@ -20,12 +20,12 @@ use Rattle.rules.specs.Colours.{empty, at}
 use Rattle.rules.specs.Points.{area, neighbours}
 use Rattle.rules.specs.Reach.{Walk, here, step, Reaches, Clearing}
 use Rattle.rules.specs.Flood.{marked, chain, touches, reaches, shores, alive, clear}
-use Rattle.rules.specs.Laws.Lists.{and_left, and_right, and_both, not-both, not_yes, decided, any-yes, any_some}
-use Rattle.rules.specs.Laws.Lists.{length-tabulate, get_or-tabulate-zero, mem_below}
-use Rattle.rules.specs.Laws.Colours.{at-within, at-beyond}
-use Rattle.rules.specs.Laws.Points.{neighbours-sym, neighbours-on, neighbours-from, neighbours-few}
-use Rattle.rules.specs.Laws.Reach.{walk-last, walk-reverse, clearing-unique}
-use Rattle.rules.specs.Laws.Run.{flooded-marks, flooded-length}
+use Rattle.rules.proofs.Laws.Lists.{and_left, and_right, and_both, not-both, not_yes, decided, any-yes, any_some}
+use Rattle.rules.proofs.Laws.Lists.{length-tabulate, get_or-tabulate-zero, mem_below}
+use Rattle.rules.proofs.Laws.Colours.{at-within, at-beyond}
+use Rattle.rules.proofs.Laws.Points.{neighbours-sym, neighbours-on, neighbours-from, neighbours-few}
+use Rattle.rules.proofs.Laws.Reach.{walk-last, walk-reverse, clearing-unique}
+use Rattle.rules.proofs.Laws.Run.{flooded-marks, flooded-length}
 
 pub eqb-means : (col : ℕ → ℕ) (c q : ℕ) → eqb (col q) c ≡ true ↔ col q ≡ c
 eqb-means col c q = (eqb-true (col q) c, eq-eqb (col q) c)

@@ -23,13 +23,13 @@ use Rattle.rules.specs.Answers.{GamePaused, OffBoard, PointNotEmpty, MoveLimit, 
 use Rattle.rules.specs.Move.{coloured, removed, sole_of}
 use Rattle.rules.specs.Game.{Game, TrueGame, TrueColours, Unbegun, Player, stones}
 use Rattle.rules.specs.Calls.{paused, pause_answer, pass_game, resign_game, resume_game, point_answer, resulting, stone_answer, one_if, stone_game, outside, Spot, lay_black, spots_answer, lay_answer, handicap_answer, handicap_game, choked}
-use Rattle.rules.specs.Laws.Lists.{and_both, or-none-left, or-none-right, not-both, decided, equal_or_not, below_or_not, any-no, pick-mem, mem_below, below-mem}
-use Rattle.rules.specs.Laws.Points.{index_on}
-use Rattle.rules.specs.Laws.Colours.{at-within, other-player}
-use Rattle.rules.specs.Laws.Chain.{liberties-reaches}
-use Rattle.rules.specs.Laws.Stones.{stones-put, stones-removed, stones-most}
-use Rattle.rules.specs.Laws.Move.{put-length, played-else}
-use Rattle.rules.specs.Laws.Calls.{then-first, then-second, refuse-not, accepted-on, accepted-empty, accepted-no-suicide, point-accepted, stone-true}
+use Rattle.rules.proofs.Laws.Lists.{and_both, or-none-left, or-none-right, not-both, decided, equal_or_not, below_or_not, any-no, pick-mem, mem_below, below-mem}
+use Rattle.rules.proofs.Laws.Points.{index_on}
+use Rattle.rules.proofs.Laws.Colours.{at-within, other-player}
+use Rattle.rules.proofs.Laws.Chain.{liberties-reaches}
+use Rattle.rules.proofs.Laws.Stones.{stones-put, stones-removed, stones-most}
+use Rattle.rules.proofs.Laws.Move.{put-length, played-else}
+use Rattle.rules.proofs.Laws.Calls.{then-first, then-second, refuse-not, accepted-on, accepted-empty, accepted-no-suicide, point-accepted, stone-true}
 
 -- a begun game asks nothing of one that is not
 begun-not : {A : Type 0} {b : Bool} → b ≡ true → b ≡ false → A

@@ -7,7 +7,7 @@ use mathlib.Core.List.Memᴰ
 use mathlib.Core.List.{List, Memᴰ}
 use Rattle.rules.specs.Colours.{empty, other}
 use Rattle.rules.specs.Reach.{Walk, here, step, Reaches, Clearing, Move}
-use Rattle.rules.specs.Laws.Lists.{equal_or_not, both_ways}
+use Rattle.rules.proofs.Laws.Lists.{equal_or_not, both_ways}
 
 -- ---- Walks
 

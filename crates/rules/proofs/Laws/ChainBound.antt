@@ -13,11 +13,11 @@ use Rattle.rules.specs.Points.{area, neighbours}
 use Rattle.rules.specs.Reach.{Walk, here}
 use Rattle.rules.specs.Flood.{chain, marked}
 use Rattle.rules.specs.Chain.{liberty, liberties, leads, chains}
-use Rattle.rules.specs.Laws.Lists.{and_left, and_right, not-both, decided, mem_below, below-mem, length-below, any-yes, any_some, pick-mem, mem-pick, count-some}
-use Rattle.rules.specs.Laws.Counting.{below-distinct, pick-distinct, length-pick, count-not, names-most}
-use Rattle.rules.specs.Laws.Points.{neighbours-few, neighbours-sym}
-use Rattle.rules.specs.Laws.Reach.{walk-last, walk-join, walk-reverse}
-use Rattle.rules.specs.Laws.Flood.{chain-marks}
+use Rattle.rules.proofs.Laws.Lists.{and_left, and_right, not-both, decided, mem_below, below-mem, length-below, any-yes, any_some, pick-mem, mem-pick, count-some}
+use Rattle.rules.proofs.Laws.Counting.{below-distinct, pick-distinct, length-pick, count-not, names-most}
+use Rattle.rules.proofs.Laws.Points.{neighbours-few, neighbours-sym}
+use Rattle.rules.proofs.Laws.Reach.{walk-last, walk-join, walk-reverse}
+use Rattle.rules.proofs.Laws.Flood.{chain-marks}
 
 module _ (h w : ℕ) (cols : List ℕ) where
   abbrev points : List ℕ

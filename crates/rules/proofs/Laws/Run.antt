@@ -15,8 +15,8 @@ use borrow.Author.Tests.{not-true, not-false}
 use Rattle.rules.specs.Lists.{count}
 use Rattle.rules.specs.Reach.{Walk, here, step}
 use Rattle.rules.specs.Flood.{fresh, flood, flooded, marked}
-use Rattle.rules.specs.Laws.Lists.{and_left, and_right, not-both, decided, equal_or_not, get_or-within, get_d_default, count-not-set, count-not-replicate}
-use Rattle.rules.specs.Laws.Reach.{walk_first}
+use Rattle.rules.proofs.Laws.Lists.{and_left, and_right, not-both, decided, equal_or_not, get_or-within, get_d_default, count-not-set, count-not-replicate}
+use Rattle.rules.proofs.Laws.Reach.{walk_first}
 
 -- ---- One mark
 

@@ -8,7 +8,7 @@ use mathlib.Core.List.{List, [], ◌∷◌, ◌++◌, map, Memᴰ}
 use Rattle.std.proofs.Math.Option.{Option, none, some}
 use Rattle.std.proofs.lemmas.Bool.{eqb-false, not-true}
 use Rattle.rules.specs.Lists.{tabulate, any, count, pick, present, below, Distinct}
-use Rattle.rules.specs.Laws.Lists.{and_left, and_right, and_both, not-both, not_yes, decided, equal_or_not, any_some, any-no, pick-mem, mem-pick, present-mem, from-least}
+use Rattle.rules.proofs.Laws.Lists.{and_left, and_right, and_both, not-both, not_yes, decided, equal_or_not, any_some, any-no, pick-mem, mem-pick, present-mem, from-least}
 
 -- ---- No repeats
 
