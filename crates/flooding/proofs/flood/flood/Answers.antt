@@ -27,7 +27,7 @@ flooding c =
 
 -- what stands in the queue is on the board
 on : (c : After-index-point) → let a = c.args in c.index-point.result < area a.height a.width
-on c =
+on c = let flooding_here : let a = c.args in Flooding a.height a.width a.slot a.colour a.origin a.notes.now c.loop-head.notes c.loop-head.queue c.loop-head.seen c.loop-head.tail c.loop-head.hash c.loop-head.head = let a = c.args in c.loop-head.invariant a.notes.now (flooding-begin a.height a.width a.slot a.colour a.origin a.notes.now c.requires.5 (λ q. ap (λ (xs : List ℕ). sees xs q) c.requires.3 ∙ none_seen seen_words q) (looked-pushed a.seen.now (ap length c.requires.3 ∙ length-replicate {A = ℕ} seen_words 0) c.requires.2 c.requires.4 c.requires.5 c.push-tail.ensures)) in
     let a = c.args in
     found-on a.height a.width (owner_in a.notes.now) a.slot a.origin c.index-point.result
     ((found-says a.height a.width (owner_in a.notes.now) a.slot a.origin c.index-point.result).1

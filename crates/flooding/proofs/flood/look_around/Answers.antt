@@ -6,16 +6,6 @@ use Rattle.flooding.specs.Laws.Edges.{towards-within}
 use Rattle.flooding.specs.Laws.Looked.{looked-around}
 use Rattle.flooding.proofs.flood.look_around.Goals as goal
 
--- the place before each look
-abbrev first : tie.After-look → tie.Start
-first c = c.before.before.before.before.before.before
-
-abbrev second : tie.After-look2 → tie.After-look
-second c = c.before.before.before.before.before.before
-
-abbrev third : tie.After-look3 → tie.After-look2
-third c = c.before.before.before.before.before.before
-
 pub below-down-requires : goal.below-down-requires
 below-down-requires c = (c.requires.4, c.requires.2.fits)
 
@@ -25,34 +15,28 @@ look-first-requires c =
     (c.requires.0, c.requires.2, c.requires.3, subst (Within (area a.height a.width)) (sym c.below-down.ensures) (towards-within a.height a.width a.point forth stay))
 
 pub above-up-requires : goal.above-up-requires
-above-up-requires c = (first c).requires.4
+above-up-requires c = c.requires.4
 
 pub look-second-requires : goal.look-second-requires
 look-second-requires c =
-    let s = first (goal.at.look-second-requires c).After-look-first in
-    let a = s.args in
-    (s.pre.0, c.look-first.ensures.ready, c.look-first.ensures.seen_long, subst (Within (area a.height a.width)) (sym c.above-up.ensures) (towards-within a.height a.width a.point back stay))
+    let a = c.args in
+    (c.requires.0, c.look-first.ensures.ready, c.look-first.ensures.seen_long, subst (Within (area a.height a.width)) (sym c.above-up.ensures) (towards-within a.height a.width a.point back stay))
 
 pub right-east-requires : goal.right-east-requires
-right-east-requires c = let s = first (second c) in (s.pre.1, s.pre.4, s.pre.2.fits)
+right-east-requires c = (c.requires.1, c.requires.4, c.requires.2.fits)
 
 pub look-third-requires : goal.look-third-requires
 look-third-requires c =
-    let one = second (goal.at.look-third-requires c).After-look-second in
-    let s = first one in
-    let a = s.args in
-    (s.pre.0, c.look-second.ensures.ready, c.look-second.ensures.seen_long, subst (Within (area a.height a.width)) (sym c.right-east.ensures) (towards-within a.height a.width a.point stay forth))
+    let a = c.args in
+    (c.requires.0, c.look-second.ensures.ready, c.look-second.ensures.seen_long, subst (Within (area a.height a.width)) (sym c.right-east.ensures) (towards-within a.height a.width a.point stay forth))
 
 pub left-west-requires : goal.left-west-requires
-left-west-requires c = let s = first (second (third c)) in (s.pre.1, s.pre.4, s.pre.2.fits)
+left-west-requires c = (c.requires.1, c.requires.4, c.requires.2.fits)
 
 pub look-requires : goal.look-requires
 look-requires c =
-    let two = third (goal.at.look-requires c).After-look-third in
-    let one = second two in
-    let s = first one in
-    let a = s.args in
-    (s.pre.0, c.look-third.ensures.ready, c.look-third.ensures.seen_long, subst (Within (area a.height a.width)) (sym c.left-west.ensures) (towards-within a.height a.width a.point stay back))
+    let a = c.args in
+    (c.requires.0, c.look-third.ensures.ready, c.look-third.ensures.seen_long, subst (Within (area a.height a.width)) (sym c.left-west.ensures) (towards-within a.height a.width a.point stay back))
 
 pub returns : goal.returns
 returns c =
