@@ -9,8 +9,7 @@ use borrow.Author.Rules.{rules}
 use borrow.Author.Tests.{lt-ltb, le-ltb, eq-eqb, ne_eqb}
 use Rattle.rules.proofs.Laws.Lists.{equal_or_not}
 use Rattle.sets.specs.Liberties.{number}
-use Rattle.laying.proofs.lay.is_dead.Statement.{statement}
-use Rattle.laying.proofs.lay.is_dead.Tie as tie
+use Rattle.laying.proofs.lay.is_dead.Goals as goal
 
 not_some : (n : ℕ) → not (ltb 0 n) ≡ eqb n 0
 not_some n =
@@ -19,11 +18,5 @@ not_some n =
     (λ e. ap not (lt-ltb 0 n (omega arith)) ∙ sym (ne_eqb n 0 e))
     (equal_or_not n 0)
 
-any-liberty-requires : tie.Need-any-liberty-requires
-any-liberty-requires c κs = search rules
-
-returns : tie.Need-returns
-returns c = ap not c.any-liberty.ensures ∙ not_some (number c.before.before.args.chain.liberties)
-
-pub is-dead-spec : {M : Type 1} → statement M
-is-dead-spec = tie.close (tie.spec any-liberty-requires returns)
+pub returns : goal.returns
+returns c = ap not c.any_liberty.ensures ∙ not_some (number c.args.chain.liberties)
