@@ -2,19 +2,15 @@
 use Rattle.rules.specs.Colours.{black}
 use Rattle.game.specs.View.{no_point, fresh_state}
 use borrow.Author.Rules.{rules}
-use Rattle.game.proofs.calls.fresh.Statement.{statement}
-use Rattle.game.proofs.calls.fresh.Tie as tie
+use Rattle.game.proofs.calls.fresh.Goals as goal
 
-empty-board-requires : tie.Need-empty-board-requires
-empty-board-requires c κs = search rules
-
-returns : tie.Need-returns
+pub returns : goal.returns
 unfolding fresh_state
 returns c =
     λ i.
     record {
-      board = c.empty-board.ensures i;
-      flags = c.before.args.flags;
+      board = c.empty_board-board.ensures i;
+      flags = c.args.flags;
       turn = black;
       passes = 0;
       outcome = 0;
@@ -26,6 +22,3 @@ returns c =
       put = record { black = 0; white = 0 };
       records = 0;
     }
-
-pub fresh-spec : {M : Type 1} → statement M
-fresh-spec = tie.close (tie.spec empty-board-requires returns)
