@@ -52,12 +52,15 @@ side-in c = omega (arith, c.loop-side-test.true, c.neighbours-around.ensures.few
 shown : (c : Joined-owner-lt-SLOTS)
     → let b = c.args.board in
     c.if-owner-lt-SLOTS.seen ≡ chain_seen (chain_in b (owner b c.index-q.result))
-shown c = let point-on_here : c.index-q.result < max_area = let b = c.args.board in let on : get_or c.neighbours-around.result.points c.loop-side.side 0 < area b.height b.width = around-on b.height b.width c.two_to_1dim-point.result c.neighbours-around.result c.neighbours-around.ensures c.loop-side.side c.loop-side-test.true in omega (arith, on, c.index-q.ensures, area-fits c.requires.true_board.table.size) in
+shown c =
     let b = c.args.board in
     let q = c.index-q.result in
+    let on : get_or c.neighbours-around.result.points c.loop-side.side 0 < area b.height b.width =
+    around-on b.height b.width c.two_to_1dim-point.result c.neighbours-around.result c.neighbours-around.ensures c.loop-side.side c.loop-side-test.true in
+    let low : q < max_area = omega (arith, on, c.index-q.ensures, area-fits c.requires.true_board.table.size) in
     elim c.if-owner-lt-SLOTS.branch [
-      | then-owner-lt-SLOTS w ↦ w.seen-is ∙ w.chain_seen-chain.ensures ∙ ap chain_seen (chain-read b c.requires.true_board q point-on_here _ c.index-owner.ensures w.if-owner-lt-SLOTS.true _)
-      | else-owner-lt-SLOTS w ↦ w.seen-is ∙ c.nothing_seen-seen.ensures ∙ nothing_read b c.requires.true_board q point-on_here _ c.index-owner.ensures w.if-owner-lt-SLOTS.false
+      | then-owner-lt-SLOTS w ↦ w.seen-is ∙ w.chain_seen-chain.ensures ∙ ap chain_seen (chain-read b c.requires.true_board q low _ c.index-owner.ensures w.if-owner-lt-SLOTS.true _)
+      | else-owner-lt-SLOTS w ↦ w.seen-is ∙ c.nothing_seen-seen.ensures ∙ nothing_read b c.requires.true_board q low _ c.index-owner.ensures w.if-owner-lt-SLOTS.false
     ]
 
 pub bounds-near_colours-side : goal.bounds-near_colours-side
