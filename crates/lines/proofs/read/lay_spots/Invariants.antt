@@ -1,0 +1,12 @@
+-- `lay_spots`: so many spots stand at the front of the buffer. The measure is how many are left.
+use Prim.Native.Nat.{◌-◌}
+use native.Mathlib.Omega.{arith}
+use Rattle.lines.specs.Steps.{Laid}
+use Rattle.lines.specs.Laws.Spots.{LaidUpto, laid_none, laid-length, laid_next, laid_more, laid-all}
+use Rattle.lines.proofs.read.lay_spots.Given as goal
+
+abbrev pub invariant-loop-laid : goal.invariant-loop-laid
+invariant-loop-laid l = LaidUpto l.text l.from l.initial.spots l.count l.at l.laid l.spots
+
+abbrev pub decreases-loop-laid : goal.decreases-loop-laid
+decreases-loop-laid l = l.count - l.laid
