@@ -4,7 +4,6 @@ use Rattle.lines.specs.Command.{usual_lent}
 use Rattle.lines.specs.Steps.{Plainly}
 use Rattle.lines.specs.declared.command.Read.TheVariants as reads
 use Rattle.lines.specs.Laws.Calls.{new_read, new-read, new-three, new-over, new-four}
-use borrow.Author.Rules.{rules}
 use Rattle.lines.proofs.read.read_new.Goals as goal
 
 pub returns-then-bytes-gt-MAX_LENT : goal.returns-then-bytes-gt-MAX_LENT
