@@ -20,4 +20,4 @@ returns-in-At c =
     let row = c.put_spaced-comma.ensures in
     let comma = c.put_byte-next-in-At.ensures in
     let column = c.put_number.ensures in record { put = rw c.in-At.is
-          (put_then (put_then (put_same (ap (λ (n : ℕ). spaced (decimal n)) c.row_of-row.ensures) row.0) comma) (put_same (ap decimal c.column_of-column.ensures) column.0)); upper_bound = omega (arith, row.1, comma.counted, column.1) }
+          (put_then (put_then (put_same (ap (λ (n : ℕ). spaced (decimal n)) c.row_of-row.ensures) row.put) comma) (put_same (ap decimal c.column_of-column.ensures) column.put)); upper_bound = omega (arith, row.upper_bound, comma.counted, column.upper_bound) }

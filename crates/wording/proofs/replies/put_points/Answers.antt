@@ -21,9 +21,9 @@ loop-i-preserved c =
     let loop = c.loop-i in
     let one = c.put_spaced-at.ensures in (
       omega arith,
-      omega (arith, one.1, loop.invariant.1),
+      omega (arith, one.upper_bound, loop.invariant.1),
       put_same (each_more c.args.points.now loop.i (omega arith))
-          (put_then loop.invariant.2 (put_same (ap (λ (n : ℕ). spaced (decimal n)) c.wide.ensures) one.0)),
+          (put_then loop.invariant.2 (put_same (ap (λ (n : ℕ). spaced (decimal n)) c.wide.ensures) one.put)),
     )
 
 pub returns : goal.returns

@@ -28,8 +28,8 @@ loop-point-preserved c =
     let loop = c.loop-point in
     let one = c.put_point-at.ensures in (
       omega arith,
-      omega (arith, one.1, loop.invariant.1),
-      put_same (rows_more _ _ loop.point) (put_then loop.invariant.2 (put_same (ap (λ (t : Bool). point t (at c.args.colours.now loop.point)) c.starts_row-starts.ensures) one.0)),
+      omega (arith, one.upper_bound, loop.invariant.1),
+      put_same (rows_more _ _ loop.point) (put_then loop.invariant.2 (put_same (ap (λ (t : Bool). point t (at c.args.colours.now loop.point)) c.starts_row-starts.ensures) one.put)),
     )
 
 pub returns : goal.returns
