@@ -1,6 +1,5 @@
 -- `put_fault`: each case has its words.
 use native.Mathlib.Omega.{arith}
-use borrow.Author.Rules.{rules}
 use Rattle.objecting.proofs.faults.put_fault.Goals as goal
 
 pub returns-in-Long : goal.returns-in-Long

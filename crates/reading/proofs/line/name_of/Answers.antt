@@ -4,7 +4,6 @@ use mathlib.Core.Bool.{false}
 use Rattle.rules.specs.Lists.{same}
 use Rattle.spelling.specs.Text.{ascii}
 use Rattle.lines.specs.Command.{name_of}
-use borrow.Author.Rules.{rules}
 use Rattle.reading.proofs.line.name_of.Goals.{Else-is_word, Else-is_word-10, Else-is_word-2, Else-is_word-3, Else-is_word-4, Else-is_word-5, Else-is_word-6, Else-is_word-7, Else-is_word-8, Else-is_word-9}
 use Rattle.reading.proofs.line.name_of.Goals as goal
 

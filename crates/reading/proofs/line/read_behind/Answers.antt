@@ -5,7 +5,6 @@ use Rattle.lines.specs.Command.{called}
 use Rattle.lines.specs.Steps.{Plainly}
 use Rattle.lines.specs.declared.command.Fault.TheVariants as faults
 use Rattle.lines.specs.Laws.Calls.{wrong-reads, pass-reads, resume-reads, state-reads, render-reads}
-use borrow.Author.Rules.{rules}
 use Rattle.reading.proofs.line.read_behind.Goals as goal
 
 pub returns-in-New : goal.returns-in-New

@@ -11,7 +11,6 @@ use lib.Seq.{length-take-le}
 use native.Mathlib.Omega.{arith}
 use Rattle.lines.specs.Laws.Calls.{wrong-reads}
 use Rattle.reading.specs.Laws.Line.{text-within, meaning-long, meaning-text}
-use borrow.Author.Rules.{rules}
 use Rattle.reading.proofs.line.read_line.Goals as goal
 
 pub returns-then-length-gt-MAX_LINE : goal.returns-then-length-gt-MAX_LINE

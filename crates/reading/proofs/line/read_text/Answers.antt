@@ -7,7 +7,6 @@ use Rattle.lines.specs.Steps.{Plainly}
 use Rattle.lines.specs.declared.command.Fault.TheVariants as faults
 use Rattle.lines.specs.Laws.Calls.{wrong-reads}
 use Rattle.reading.specs.Laws.Line.{echo-reads, given-empty, given-hash, given-words, given-called}
-use borrow.Author.Rules.{rules}
 use Rattle.reading.proofs.line.read_text.Goals as goal
 
 pub returns-then-text-eq0 : goal.returns-then-text-eq0

@@ -4,7 +4,6 @@ use Prim.Native.Nat.{ℕ}
 use native.Mathlib.Omega.{arith}
 use Rattle.writing.specs.Figures.{decimal, spaced}
 use Rattle.writing.specs.Laws.Put.{put_then, put_same}
-use borrow.Author.Rules.{rules}
 use Rattle.wording.proofs.replies.put_place.Goals as goal
 
 pub returns-in-Off : goal.returns-in-Off
@@ -19,5 +18,8 @@ unfolding spaced
 returns-in-At c =
     let row = c.put_spaced-comma.ensures in
     let comma = c.put_byte-next-in-At.ensures in
-    let column = c.put_number.ensures in record { put = rw c.in-At.is
-          (put_then (put_then (put_same (ap (λ (n : ℕ). spaced (decimal n)) c.row_of-row.ensures) row.put) comma) (put_same (ap decimal c.column_of-column.ensures) column.put)); upper_bound = omega (arith, row.upper_bound, comma.counted, column.upper_bound) }
+    let column = c.put_number.ensures in record {
+      put = rw c.in-At.is
+          (put_then (put_then (put_same (ap (λ (n : ℕ). spaced (decimal n)) c.row_of-row.ensures) row.put) comma) (put_same (ap decimal c.column_of-column.ensures) column.put));
+      upper_bound = omega (arith, row.upper_bound, comma.counted, column.upper_bound);
+    }

@@ -5,7 +5,6 @@ use Prim.Native.Nat.{ℕ}
 use native.Mathlib.Omega.{arith}
 use Rattle.wording.specs.Replies.{point}
 use Rattle.writing.specs.Laws.Put.{put_then, put_same}
-use borrow.Author.Rules.{rules}
 use Rattle.wording.proofs.replies.put_point.Goals as goal
 
 pub returns-then-starts : goal.returns-then-starts

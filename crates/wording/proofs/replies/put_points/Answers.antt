@@ -1,13 +1,10 @@
 use mathlib.Core.Path.{ap}
-use Prim.Native.Nat.{ℕ, ◌+◌, ◌*◌, ◌-◌, ◌≤◌}
+use Prim.Native.Nat.{ℕ}
 use native.Mathlib.Omega.{arith}
-use lib.ListN.{length, take}
 use Rattle.writing.specs.Figures.{decimal, spaced}
 use Rattle.wording.specs.Replies.{each}
-use Rattle.writing.specs.Put.{Put}
 use Rattle.writing.specs.Laws.Put.{put-none, put_then, put_same, put_all}
 use Rattle.wording.specs.Laws.Replies.{each_more}
-use borrow.Author.Rules.{rules}
 use Rattle.wording.proofs.replies.put_points.Goals as goal
 
 pub loop-i-init : goal.loop-i-init

@@ -1,14 +1,8 @@
 -- `put_points`: the first points stand there. The measure is how many are left.
-use mathlib.Core.Path.{ap}
-use Prim.Native.Nat.{ℕ, ◌+◌, ◌*◌, ◌-◌, ◌≤◌}
-use native.Mathlib.Omega.{arith}
+use Prim.Native.Nat.{◌+◌, ◌*◌, ◌-◌, ◌≤◌}
 use lib.ListN.{length, take}
-use Rattle.writing.specs.Figures.{decimal, spaced}
 use Rattle.wording.specs.Replies.{each}
 use Rattle.writing.specs.Put.{Put}
-use Rattle.writing.specs.Laws.Put.{put-none, put_then, put_same, put_all}
-use Rattle.wording.specs.Laws.Replies.{each_more}
-use borrow.Author.Rules.{rules}
 use Rattle.wording.proofs.replies.put_points.Given as goal
 
 abbrev pub invariant-loop-i : goal.invariant-loop-i

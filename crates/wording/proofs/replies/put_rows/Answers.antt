@@ -1,13 +1,10 @@
 use mathlib.Core.Path.{◌≡◌, ap}
 use mathlib.Core.Bool.{Bool}
-use Prim.Native.Nat.{◌+◌, ◌*◌, ◌-◌, ◌≤◌}
 use native.Mathlib.Omega.{arith}
 use Rattle.rules.specs.Colours.{at}
 use Rattle.wording.specs.Replies.{point, rows_upto}
-use Rattle.writing.specs.Put.{Put}
 use Rattle.writing.specs.Laws.Put.{put-none, put_then, put_same}
 use Rattle.wording.specs.Laws.Replies.{rows_more}
-use borrow.Author.Rules.{rules}
 use Rattle.wording.proofs.replies.put_rows.Goals as goal
 
 pub loop-point-init : goal.loop-point-init

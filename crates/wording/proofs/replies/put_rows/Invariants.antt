@@ -1,14 +1,7 @@
 -- `put_rows`: the first points stand there. The measure is how many are left.
-use mathlib.Core.Path.{◌≡◌, ap}
-use mathlib.Core.Bool.{Bool}
 use Prim.Native.Nat.{◌+◌, ◌*◌, ◌-◌, ◌≤◌}
-use native.Mathlib.Omega.{arith}
-use Rattle.rules.specs.Colours.{at}
-use Rattle.wording.specs.Replies.{point, rows_upto}
+use Rattle.wording.specs.Replies.{rows_upto}
 use Rattle.writing.specs.Put.{Put}
-use Rattle.writing.specs.Laws.Put.{put-none, put_then, put_same}
-use Rattle.wording.specs.Laws.Replies.{rows_more}
-use borrow.Author.Rules.{rules}
 use Rattle.wording.proofs.replies.put_rows.Given as goal
 
 abbrev pub invariant-loop-point : goal.invariant-loop-point

@@ -1,7 +1,6 @@
 -- `starts_row`: the code and the definition make the same tests.
 use borrow.Author.Tests.{lt-ltb, le-ltb}
 use Rattle.wording.specs.Replies.{starts_row}
-use borrow.Author.Rules.{rules}
 use Rattle.wording.proofs.replies.starts_row.Goals as goal
 
 pub returns-then-point-gt0 : goal.returns-then-point-gt0
