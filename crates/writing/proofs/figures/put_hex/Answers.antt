@@ -11,7 +11,7 @@ pub loop-i-init : goal.loop-i-init
 loop-i-init c = (omega arith, omega arith, put-none _ _ (omega arith))
 
 pub hex_digit-requires : goal.hex_digit-requires
-hex_digit-requires c = omega (arith, c.shared_slice_known-in-loop-i-1.given c.loop-i.i)
+hex_digit-requires c = omega (arith, c.type_inv.bytes c.loop-i.i)
 
 pub put_byte-at-requires : goal.put_byte-at-requires
 put_byte-at-requires c = omega (arith, c.loop-i.invariant.2.long)
