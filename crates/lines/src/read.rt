@@ -20,7 +20,7 @@ use spelling::words::next_word;
 pub fn is_word(word: &[u8], name: &[u8]) -> bool
     ensures { result ≡ same word.now name.now }
 {
-    check::same(word, name)
+    word == name
 }
 
 pub fn read_new(text: &[u8], from: usize) -> Read

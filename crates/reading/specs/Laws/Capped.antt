@@ -178,7 +178,7 @@ module _ (h w : ℕ) (size : TrueSize h w) where
       let on : outside h w s.row s.column ≡ false = refuse-not OffBoard _ refl (then-first _ _ t) in
       ap₂ {C = List Spot} (λ (x : Spot) (l : List Spot). x ∷ l)
       (λ i. record { row = row_same h w s.row s.column size on i; column = column-same h w s.row s.column size on i })
-      (spots-same _ spots (then-second _ _ (then-second _ _ t)))
+      (spots-same (coloured cols black (index w s.row s.column)) spots (then-second _ _ (then-second _ _ t)))
 
 module _ (g : Game) (size : TrueSize g.height g.width) (spots : List Spot) where
   laid_same : accepts (handicap_answer g spots) ≡ true → map capped spots ≡ spots

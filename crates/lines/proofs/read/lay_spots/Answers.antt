@@ -1,7 +1,6 @@
-use Prim.Native.Nat.{◌-◌}
 use native.Mathlib.Omega.{arith}
 use Rattle.lines.specs.Steps.{Laid}
-use Rattle.lines.specs.Laws.Spots.{LaidUpto, laid_none, laid-length, laid_next, laid_more, laid-all}
+use Rattle.lines.specs.Laws.Spots.{laid_none, laid-length, laid_next, laid_more, laid-all}
 use Rattle.lines.proofs.read.lay_spots.Goals as goal
 
 pub loop-laid-init : goal.loop-laid-init

@@ -1,8 +1,6 @@
 -- `lay_spots`: so many spots stand at the front of the buffer. The measure is how many are left.
 use Prim.Native.Nat.{◌-◌}
-use native.Mathlib.Omega.{arith}
-use Rattle.lines.specs.Steps.{Laid}
-use Rattle.lines.specs.Laws.Spots.{LaidUpto, laid_none, laid-length, laid_next, laid_more, laid-all}
+use Rattle.lines.specs.Laws.Spots.{LaidUpto}
 use Rattle.lines.proofs.read.lay_spots.Given as goal
 
 abbrev pub invariant-loop-laid : goal.invariant-loop-laid

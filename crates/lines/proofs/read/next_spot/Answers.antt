@@ -2,7 +2,6 @@
 use mathlib.Core.Path.{refl, subst}
 use Rattle.spelling.specs.Steps.{Told, Numbered}
 use Rattle.lines.specs.Laws.Spots.{spotted-both, spotted-odd, spotted-broken, spotted-end, spotted-bad}
-use borrow.Author.Rules.{rules}
 use Rattle.lines.proofs.read.next_spot.Goals.{In-Number}
 use Rattle.lines.proofs.read.next_spot.Goals as goal
 

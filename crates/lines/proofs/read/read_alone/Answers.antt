@@ -1,7 +1,6 @@
 -- `read_alone`: the call, if no word is left.
 use mathlib.Core.Path.{sym, ◌∙◌}
 use Rattle.lines.specs.Laws.Calls.{alone-ended, alone-more}
-use borrow.Author.Rules.{rules}
 use Rattle.lines.proofs.read.read_alone.Goals as goal
 
 pub returns-then-at_end : goal.returns-then-at_end

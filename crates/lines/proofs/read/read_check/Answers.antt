@@ -3,7 +3,6 @@ use mathlib.Core.Path.{sym, ap, ◌∙◌, subst}
 use Rattle.lines.specs.Steps.{Plainly}
 use Rattle.lines.specs.declared.command.Read.TheVariants as reads
 use Rattle.lines.specs.Laws.Calls.{check_read, check-read}
-use borrow.Author.Rules.{rules}
 use Rattle.lines.proofs.read.read_check.Goals as goal
 
 pub returns-in-Are : goal.returns-in-Are

@@ -12,7 +12,6 @@ use Rattle.lines.specs.Steps.{Plainly, Names, Laid}
 use Rattle.lines.specs.declared.command.Fault.TheVariants as faults
 use Rattle.lines.specs.Laws.Calls.{wrong-reads}
 use Rattle.lines.specs.Laws.Handicap.{handicap-bad, handicap-odd, handicap-even, handicap-short, handicap-laid}
-use borrow.Author.Rules.{rules}
 use Rattle.lines.proofs.read.read_handicap.Goals.{Else-count-ne0}
 use Rattle.lines.proofs.read.read_handicap.Goals as goal
 

@@ -3,7 +3,6 @@ use mathlib.Core.Path.{sym, ap, ◌∙◌, subst}
 use Rattle.lines.specs.Steps.{Plainly}
 use Rattle.lines.specs.declared.command.Read.TheVariants as reads
 use Rattle.lines.specs.Laws.Calls.{legals_read, legals-read}
-use borrow.Author.Rules.{rules}
 use Rattle.lines.proofs.read.read_legals.Goals as goal
 
 pub returns-in-Is : goal.returns-in-Is

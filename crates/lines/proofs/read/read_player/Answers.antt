@@ -1,7 +1,6 @@
 -- `read_player`: the two words are asked for in the order of the definition.
 use mathlib.Core.Path.{sym, ◌∙◌}
 use Rattle.lines.specs.Laws.Calls.{player-black, player-white, player-none}
-use borrow.Author.Rules.{rules}
 use Rattle.lines.proofs.read.read_player.Goals as goal
 
 pub returns-then-is_word : goal.returns-then-is_word

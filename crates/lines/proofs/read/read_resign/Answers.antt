@@ -5,7 +5,6 @@ use Rattle.spelling.specs.Steps.{part}
 use Rattle.lines.specs.Steps.{Plainly}
 use Rattle.lines.specs.declared.command.Fault.TheVariants as faults
 use Rattle.lines.specs.Laws.Calls.{resign-one, resign-more, wrong-reads}
-use borrow.Author.Rules.{rules}
 use Rattle.lines.proofs.read.read_resign.Goals as goal
 
 pub returns-then-start-end : goal.returns-then-start-end

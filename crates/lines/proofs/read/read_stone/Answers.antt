@@ -3,7 +3,6 @@ use mathlib.Core.Path.{sym, ap, ap₂, ◌∙◌, subst}
 use Rattle.lines.specs.Steps.{Plainly}
 use Rattle.lines.specs.declared.command.Read.TheVariants as reads
 use Rattle.lines.specs.Laws.Calls.{stone_read, stone-read}
-use borrow.Author.Rules.{rules}
 use Rattle.lines.proofs.read.read_stone.Goals as goal
 
 pub returns-in-Are : goal.returns-in-Are

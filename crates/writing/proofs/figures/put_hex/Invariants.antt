@@ -1,0 +1,13 @@
+-- `put_hex`: the digits of the first bytes stand there. The measure is how many bytes are left.
+use mathlib.Core.Path.{◌≡◌}
+use Prim.Native.Nat.{◌+◌, ◌*◌, ◌-◌, ◌≤◌}
+use lib.ListN.{length, take}
+use Rattle.writing.specs.Figures.{hex}
+use Rattle.writing.specs.Put.{Put}
+use Rattle.writing.proofs.figures.put_hex.Given as goal
+
+abbrev pub invariant-loop-i : goal.invariant-loop-i
+invariant-loop-i l = (l.i ≤ length l.bytes) × (l.at ≡ l.from + 2 * l.i) × Put (hex (take l.i l.bytes)) l.initial.out l.from l.at l.out
+
+abbrev pub decreases-loop-i : goal.decreases-loop-i
+decreases-loop-i l = length l.bytes - l.i
