@@ -1,0 +1,70 @@
+-- Each way out is one of the promise's laws: the state is damaged, the game has begun, laying the stones refuses, or they are laid.
+use native.Mathlib.Omega.{arith}
+use Prim.Native.Nat.{◌≤◌}
+use lib.ListN.{length}
+use borrow.Author.Tests.{not-true, not-false}
+use Rattle.rules.specs.Sizes.{max_area}
+use Rattle.rules.specs.Answers.{number}
+use Rattle.rules.proofs.Laws.Lists.{not-both}
+use Rattle.placing.specs.Placing.{spots_of}
+use Rattle.game.specs.View.{TrueState}
+use Rattle.game.specs.Judge.{Decides}
+use Rattle.game.specs.Laws.Judge.{decides-state}
+use Rattle.game.specs.Laws.Promise.{alone-damaged}
+use Rattle.playing.specs.After.{handicap_given}
+use Rattle.playing.specs.Laws.Count.{true-few}
+use Rattle.playing.specs.Laws.Handicap.{spots-length, handicap-late, start-bare, handicap-refused, spots-few, handicap-laid}
+use borrow.Author.Rules.{rules}
+use Rattle.playing.proofs.handicap.handicap.Goals.{After-numbers_fit, Else-not-numbers_fit, Else-placed-ne-ACCEPTED}
+use Rattle.playing.proofs.handicap.handicap.Goals as goal
+
+-- both judges together are the judge of the state
+judge : (c : After-numbers_fit) → let a = c.args in Decides c.numbers_fit.result (TrueState a.game)
+judge c = decides-state c.clock_of-clock.ensures (c.judged-found.ensures.sound, (c.judged-found.ensures.complete, (c.judged-found.ensures.blacks, c.judged-found.ensures.whites))) c.numbers_fit.ensures
+
+judged : (c : Else-not-numbers_fit) → TrueState c.args.game
+judged c = let judge_here : let a = c.args in Decides c.numbers_fit.result (TrueState a.game) = decides-state c.clock_of-clock.ensures (c.judged-found.ensures.sound, (c.judged-found.ensures.complete, (c.judged-found.ensures.blacks, c.judged-found.ensures.whites))) c.numbers_fit.ensures in (judge_here).sound (c.if-not-numbers_fit.false)
+
+-- the board took them all, so they are no more than its points
+few : (c : Else-placed-ne-ACCEPTED) → length c.args.spots.now ≤ max_area
+few c = let judge_here : let a = c.args in Decides c.numbers_fit.result (TrueState a.game) = decides-state c.clock_of-clock.ensures (c.judged-found.ensures.sound, (c.judged-found.ensures.complete, (c.judged-found.ensures.blacks, c.judged-found.ensures.whites))) c.numbers_fit.ensures in let judged_here : TrueState c.args.game = (judge_here).sound (c.if-not-numbers_fit.false) in
+    let spots = c.args.spots.now in
+    omega (
+      arith,
+      spots-few _ (judged_here) (spots_of spots) c.if-answered-ne0.false c.lay_handicap-placed.result c.lay_handicap-placed.ensures c.if-placed-ne-ACCEPTED.false,
+      spots-length spots,
+    )
+
+pub returns-then-not-numbers_fit : goal.returns-then-not-numbers_fit
+unfolding number
+returns-then-not-numbers_fit c = alone-damaged _ _ (λ is. not-both ((judge (goal.at.returns-then-not-numbers_fit c).After-numbers_fit).complete is) (c.if-not-numbers_fit.true))
+
+pub returns-then-answered-ne0 : goal.returns-then-answered-ne0
+unfolding number
+returns-then-answered-ne0 c = handicap-late _ (judged (goal.at.returns-then-answered-ne0 c).Else-not-numbers_fit) _ c.if-answered-ne0.true
+
+pub lay_handicap-placed-requires : goal.lay_handicap-placed-requires
+lay_handicap-placed-requires c = start-bare _ (judged (goal.at.lay_handicap-placed-requires c).Else-not-numbers_fit) c.if-answered-ne0.false
+
+pub returns-then-placed-ne-ACCEPTED : goal.returns-then-placed-ne-ACCEPTED
+returns-then-placed-ne-ACCEPTED c =
+    handicap-refused _ (judged (goal.at.returns-then-placed-ne-ACCEPTED c).Else-not-numbers_fit) _ c.if-answered-ne0.false c.lay_handicap-placed.result c.lay_handicap-placed.ensures c.if-placed-ne-ACCEPTED.true
+
+pub overflow_cast-count : goal.overflow_cast-count
+overflow_cast-count c = let most = few (goal.at.overflow_cast-count c).Else-placed-ne-ACCEPTED in record { fits = omega arith }
+
+pub overflow_cast-put : goal.overflow_cast-put
+overflow_cast-put c = let most = few (goal.at.overflow_cast-put c).Else-placed-ne-ACCEPTED in record { fits = omega arith }
+
+pub overflow_add-put : goal.overflow_add-put
+overflow_add-put c =
+    let most = few (goal.at.overflow_add-put c).Else-placed-ne-ACCEPTED in
+    let put = (true-few _ (judged (goal.at.overflow_add-put c).Else-not-numbers_fit)).1 in
+    record { fits = omega (arith, put.blacks) }
+
+pub returns : goal.returns
+unfolding handicap_given
+returns c =
+    let spots = c.args.spots.now in
+    handicap-laid _ (judged (goal.at.returns c).Else-not-numbers_fit) (spots_of spots) c.if-answered-ne0.false c.lay_handicap-placed.result c.lay_handicap-placed.ensures c.if-placed-ne-ACCEPTED.false
+    (spots-length spots)
