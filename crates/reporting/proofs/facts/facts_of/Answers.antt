@@ -5,24 +5,17 @@ use Rattle.game.specs.Asks as asked
 use Rattle.reporting.specs.Facts.{ko_number, outcome_number, no_facts, facts_of}
 use Rattle.reporting.specs.Laws.Facts.{ko-within, ko-told}
 use borrow.Author.Rules.{rules}
-use Rattle.reporting.proofs.facts.facts_of.Statement.{statement}
-use Rattle.reporting.proofs.facts.facts_of.Tie as tie
+use Rattle.reporting.proofs.facts.facts_of.Goals as goal
 
-facts-of-requires : tie.Need-facts-of-requires
-facts-of-requires c κs = search rules
+pub ko_number-ko-requires : goal.ko_number-ko-requires
+ko_number-ko-requires c = ko-within _ _ c.facts_of-facts.ensures
 
-ko-number-requires : tie.Need-ko-number-requires
-ko-number-requires c κs = ko-within _ _ c.before.facts-of.ensures
-
-outcome-number-requires : tie.Need-outcome-number-requires
-outcome-number-requires c κs = search rules
-
-returns : tie.Need-returns
+pub returns : goal.returns
 unfolding number no_facts facts_of asked.no_facts
 returns c =
-    let a = c.before.before.before.facts-of.ensures in
+    let a = c.facts_of-facts.ensures in
     record {
-      damaged = λ n. rw (c.outcome-number.ensures, ko-told _ _ c.before.ko-number.ensures, a.damaged n);
+      damaged = λ n. rw (c.outcome_number-outcome.ensures, ko-told _ _ c.ko_number-ko.ensures, a.damaged n);
       told =
           λ t i.
           record {
@@ -32,16 +25,12 @@ returns c =
             flags = (a.told t).flags i;
             turn = (a.told t).turn i;
             passes = (a.told t).passes i;
-            outcome = (c.outcome-number.ensures ∙ ap outcome_number (a.told t).outcome) i;
+            outcome = (c.outcome_number-outcome.ensures ∙ ap outcome_number (a.told t).outcome) i;
             over = (a.told t).over i;
-            ko = (ko-told _ _ c.before.ko-number.ensures ∙ ap ko_number (a.told t).ko) i;
+            ko = (ko-told _ _ c.ko_number-ko.ensures ∙ ap ko_number (a.told t).ko) i;
             handicap = (a.told t).handicap i;
             accepted = (a.told t).accepted i;
             prisoners = record { black = (a.told t).black_held i; white = (a.told t).white_held i };
             records = (a.told t).records i;
           };
     }
-
-pub facts-of-spec : {M : Type 1} → statement M
-facts-of-spec =
-    tie.close (tie.spec facts-of-requires ko-number-requires outcome-number-requires returns)
