@@ -17,10 +17,10 @@ use Rattle.rules.specs.Sizes.{max_area, slots}
 use Rattle.rules.specs.Lists.{below}
 use Rattle.rules.specs.Points.{area, neighbours}
 use Rattle.rules.specs.Game.{Player}
-use Rattle.rules.specs.Laws.Lists.{and_left, and_right, get_d_default, length-below}
-use Rattle.rules.specs.Laws.Counting.{count_most}
-use Rattle.rules.specs.Laws.Colours.{player-stone}
-use Rattle.rules.specs.Laws.Points.{neighbours-on}
+use Rattle.rules.proofs.Laws.Lists.{and_left, and_right, get_d_default, length-below}
+use Rattle.rules.proofs.Laws.Counting.{count_most}
+use Rattle.rules.proofs.Laws.Colours.{player-stone}
+use Rattle.rules.proofs.Laws.Points.{neighbours-on}
 use Rattle.points.specs.declared.coord.Around.{Around}
 use Rattle.points.specs.Around.{Holds}
 use Rattle.chains.specs.declared.group.Chain.{Chain}

@@ -11,7 +11,7 @@ use lib.ListN.{length, get_or}
 use borrow.Author.Tests.{ltb-true, ltb-false, lt-ltb, le-ltb}
 use Rattle.rules.specs.Sizes.{max_area, slots}
 use Rattle.rules.specs.Game.{Player}
-use Rattle.rules.specs.Laws.Lists.{below_or_not}
+use Rattle.rules.proofs.Laws.Lists.{below_or_not}
 use Rattle.chains.specs.declared.group.Chain.{Chain}
 use Rattle.chains.specs.Group.{used}
 use Rattle.sets.specs.Liberties.{number}

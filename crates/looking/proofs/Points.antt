@@ -11,7 +11,7 @@ use borrow.Author.Tests.{ltb-true, ltb-false}
 use borrow.Author.Count.{below_none, below_more}
 use Rattle.rules.specs.Sizes.{max_area}
 use Rattle.rules.specs.Lists.{tabulate}
-use Rattle.rules.specs.Laws.Lists.{decided, length-tabulate, get_or-tabulate-zero, get_or-replicate-same}
+use Rattle.rules.proofs.Laws.Lists.{decided, length-tabulate, get_or-tabulate-zero, get_or-replicate-same}
 
 pub record Upto (f : ℕ → ℕ) (xs : List ℕ) (n : ℕ) : Type 0 where
   pub long : length xs ≡ max_area

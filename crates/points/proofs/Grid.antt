@@ -8,7 +8,7 @@ use native.Mathlib.Omega.{arith}
 use lib.Dec.{ltb}
 use borrow.Author.Tests.{ltb-true, lt-ltb, le-ltb}
 use Rattle.rules.specs.Points.{area, row, column, Shift, back, stay, forth, shifted, joined, towards, sides, neighbours}
-use Rattle.rules.specs.Laws.Points.{row_on, column-on}
+use Rattle.rules.proofs.Laws.Points.{row_on, column-on}
 use Rattle.points.specs.Place.{Within}
 
 -- ---- Steps

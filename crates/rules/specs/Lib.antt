@@ -16,4 +16,3 @@ pub mod Game
 pub mod Calls
 pub mod Picture
 pub mod Games
-pub mod Laws

@@ -17,7 +17,7 @@ use Rattle.rules.specs.Sizes.{slots}
 use Rattle.rules.specs.Lists.{present}
 use Rattle.rules.specs.Points.{sides, neighbours}
 use Rattle.rules.specs.Hash.{stone_hash}
-use Rattle.rules.specs.Laws.Lists.{get_d_default}
+use Rattle.rules.proofs.Laws.Lists.{get_d_default}
 use Rattle.chains.specs.declared.group.Chain.{Chain}
 use Rattle.chains.specs.Group.{free_chain}
 use Rattle.board.specs.declared.goban.Board.{Board}

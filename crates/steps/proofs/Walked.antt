@@ -9,8 +9,8 @@ use lib.Seq.{take_at}
 use Rattle.rules.specs.Sizes.{max_area}
 use Rattle.rules.specs.Lists.{count, below}
 use Rattle.rules.specs.Points.{area}
-use Rattle.rules.specs.Laws.Lists.{length-below}
-use Rattle.rules.specs.Laws.Counting.{count_most}
+use Rattle.rules.proofs.Laws.Lists.{length-below}
+use Rattle.rules.proofs.Laws.Counting.{count_most}
 use Rattle.chains.specs.Walk.{stepped, walked, walk_length}
 use Rattle.chains.specs.Laws.Walk.{length-walked, get_or-walked, walk_length-whole}
 use Rattle.board.specs.declared.goban.Board.{Board}

@@ -11,7 +11,7 @@ use Rattle.rules.specs.Answers.{Damaged, number, accepts}
 use Rattle.rules.specs.Game.{TrueSize}
 use Rattle.rules.specs.Calls.{filled}
 use Rattle.rules.specs.Picture.{picture, picture_bytes, picture_answer}
-use Rattle.rules.specs.Laws.Answers.{accepts-zero}
+use Rattle.rules.proofs.Laws.Answers.{accepts-zero}
 use Rattle.board.specs.declared.goban.Board.{Board}
 use Rattle.board.specs.Board.{colours_of}
 use Rattle.board.specs.True.{TrueBoard}

@@ -13,9 +13,9 @@ use Rattle.rules.specs.Answers.{Answer, Damaged, number, accepts, ◌then◌, re
 use Rattle.rules.specs.Game as rules
 use Rattle.rules.specs.Calls.{flags_answer, list_answer, legals, filled}
 use Rattle.rules.specs.Lists.{pick, below}
-use Rattle.rules.specs.Laws.Lists.{decided, length-below}
-use Rattle.rules.specs.Laws.Counting.{length-pick, count_most}
-use Rattle.rules.specs.Laws.Answers.{accepts-zero, refuses-other}
+use Rattle.rules.proofs.Laws.Lists.{decided, length-below}
+use Rattle.rules.proofs.Laws.Counting.{length-pick, count_most}
+use Rattle.rules.proofs.Laws.Answers.{accepts-zero, refuses-other}
 use Rattle.board.specs.Laws.Board.{area-fits}
 use Rattle.listing.specs.declared.list.Listed.{Listed}
 use Rattle.game.specs.declared.state.Game.{Game}

@@ -8,7 +8,7 @@ use Rattle.std.proofs.lemmas.List.{length-map}
 use Rattle.rules.specs.Answers.{Answer, number, accepts}
 use Rattle.rules.specs.Game as games
 use Rattle.rules.specs.Calls as rules
-use Rattle.rules.specs.Laws.Lists.{decided}
+use Rattle.rules.proofs.Laws.Lists.{decided}
 use Rattle.placing.specs.Placing.{spots_of}
 use Rattle.game.specs.declared.state.Game.{Game}
 use Rattle.game.specs.View.{view_of, TrueState}

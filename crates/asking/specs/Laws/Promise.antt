@@ -1,7 +1,7 @@
 -- Laws of Promise: it leaves nothing free: two results that meet it are equal.
 use Rattle.std.specs.Prelude.{Bool, ◌⊎◌, ◌≡◌}
 use Rattle.std.proofs.Common.{⊎_elim, sym, ◌∙◌}
-use Rattle.rules.specs.Laws.Lists.{decided}
+use Rattle.rules.proofs.Laws.Lists.{decided}
 use Rattle.queries.specs.declared.goban.TestAnswer.{TestAnswer}
 use Rattle.asking.specs.Promise.{Tested}
 

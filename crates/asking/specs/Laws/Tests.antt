@@ -11,7 +11,7 @@ use Rattle.rules.specs.Records.{recorded}
 use Rattle.rules.specs.Tests.{ko, captures, superko}
 use Rattle.rules.specs.Answers.{SuperKo, number, refuse}
 use Rattle.rules.specs.Calls.{off_board, taken, resulting}
-use Rattle.rules.specs.Laws.Lists.{not-both}
+use Rattle.rules.proofs.Laws.Lists.{not-both}
 use Rattle.board.specs.Board.{colours_of}
 use Rattle.board.specs.True.{TrueBoard}
 use Rattle.legality.specs.declared.near.Near.{Near}

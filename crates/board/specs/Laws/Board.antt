@@ -9,8 +9,8 @@ use Rattle.rules.specs.Sizes.{max_side, max_area, slots}
 use Rattle.rules.specs.Points.{area}
 use Rattle.rules.specs.Colours.{empty, at}
 use Rattle.rules.specs.Game.{Player, TrueSize}
-use Rattle.rules.specs.Laws.Lists.{length-tabulate, get_or-tabulate-zero, get_or-tabulate-beyond, decided, equal_or_not}
-use Rattle.rules.specs.Laws.Colours.{player-stone}
+use Rattle.rules.proofs.Laws.Lists.{length-tabulate, get_or-tabulate-zero, get_or-tabulate-beyond, decided, equal_or_not}
+use Rattle.rules.proofs.Laws.Colours.{player-stone}
 use Rattle.chains.specs.Group.{free_chain}
 use Rattle.board.specs.declared.goban.Board.{Board}
 use Rattle.board.specs.Board.{owner, chain_in, colour_at, colours_of}

@@ -10,11 +10,11 @@ use Rattle.rules.specs.Lists.{any, count, below}
 use Rattle.rules.specs.Points.{area, neighbours}
 use Rattle.rules.specs.Colours.{empty, at}
 use Rattle.rules.specs.Reach.{Walk, here, step, Reaches}
-use Rattle.rules.specs.Laws.Lists.{and_left, and_right, and_both, any-yes, any_some, mem_below, count-some, count-positive}
+use Rattle.rules.proofs.Laws.Lists.{and_left, and_right, and_both, any-yes, any_some, mem_below, count-some, count-positive}
 use Rattle.rules.specs.Game.{TrueColours}
-use Rattle.rules.specs.Laws.Colours.{player-stone}
-use Rattle.rules.specs.Laws.Points.{neighbours-sym, neighbours-on}
-use Rattle.rules.specs.Laws.Reach.{walk_first, walk-join, walk-reverse, walk-renamed}
+use Rattle.rules.proofs.Laws.Colours.{player-stone}
+use Rattle.rules.proofs.Laws.Points.{neighbours-sym, neighbours-on}
+use Rattle.rules.proofs.Laws.Reach.{walk_first, walk-join, walk-reverse, walk-renamed}
 use Rattle.chains.specs.Group.{used}
 use Rattle.sets.specs.Liberties.{number, liberty_bits}
 use Rattle.sets.specs.Laws.Liberties.{number-set_of}

@@ -13,9 +13,9 @@ use Rattle.rules.specs.Lists.{any, count, below, Distinct}
 use Rattle.rules.specs.Points.{area, column, neighbours}
 use Rattle.rules.specs.Colours.{empty}
 use Rattle.rules.specs.Hash.{hash}
-use Rattle.rules.specs.Laws.Lists.{and_left, and_right, and_both, not-both, decided, equal_or_not, below_or_not, same_answer, get_or-within}
-use Rattle.rules.specs.Laws.Places.{tabulate-ext}
-use Rattle.rules.specs.Laws.Points.{neighbours-on, neighbours-from}
+use Rattle.rules.proofs.Laws.Lists.{and_left, and_right, and_both, not-both, decided, equal_or_not, below_or_not, same_answer, get_or-within}
+use Rattle.rules.proofs.Laws.Places.{tabulate-ext}
+use Rattle.rules.proofs.Laws.Points.{neighbours-on, neighbours-from}
 use Rattle.chains.specs.Group.{used, free_chain}
 use Rattle.sets.specs.Liberties.{set_of}
 use Rattle.chains.specs.Walk.{stepped, walked}

@@ -11,7 +11,7 @@ use Rattle.rules.specs.Points.{area}
 use Rattle.rules.specs.Colours.{empty, black, white, at}
 use Rattle.rules.specs.Hash.{stone_hash, hash_from, hash}
 use Rattle.rules.specs.Game.{Player, TrueSize, TrueColours, stones, empty_board}
-use Rattle.rules.specs.Laws.Lists.{not-both, equal_or_not, get_or-tabulate-zero, get_or-replicate-same, count-positive, mem-get_or}
+use Rattle.rules.proofs.Laws.Lists.{not-both, equal_or_not, get_or-tabulate-zero, get_or-replicate-same, count-positive, mem-get_or}
 use Rattle.chains.specs.Group.{free_chain, used}
 use Rattle.chains.specs.Laws.Group.{table-unused}
 use Rattle.board.specs.declared.goban.Board.{Board}

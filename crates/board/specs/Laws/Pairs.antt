@@ -5,8 +5,8 @@ use mathlib.Core.List.Memᴰ.{head}
 use mathlib.Core.List.Memᴰ.{tail}
 use mathlib.Core.List.{Memᴰ}
 use Rattle.rules.specs.Points.{area, index, row, column, NextTo, sides, neighbours}
-use Rattle.rules.specs.Laws.Lists.{mem-present}
-use Rattle.rules.specs.Laws.Points.{index-row-column, neighbours-adjacent}
+use Rattle.rules.proofs.Laws.Lists.{mem-present}
+use Rattle.rules.proofs.Laws.Points.{index-row-column, neighbours-adjacent}
 use Rattle.flooding.specs.Laws.Edges.{above-some, left-some}
 
 module _ (h w p : ℕ) (on : p < area h w) where

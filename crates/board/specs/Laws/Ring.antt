@@ -7,12 +7,12 @@ use mathlib.Core.List.{List, Memᴰ}
 use native.Mathlib.Omega.{arith}
 use Rattle.rules.specs.Lists.{count, pick, below, Distinct}
 use Rattle.rules.specs.Points.{area}
-use Rattle.rules.specs.Laws.Lists.{mem-pick, mem_below}
-use Rattle.rules.specs.Laws.Counting.{length-pick}
+use Rattle.rules.proofs.Laws.Lists.{mem-pick, mem_below}
+use Rattle.rules.proofs.Laws.Counting.{length-pick}
 use Rattle.chains.specs.Walk.{stepped, walked}
 use Rattle.chains.specs.Laws.Walk.{stepped-add, length-walked}
-use Rattle.rules.specs.Laws.Lists.{tabulate-mem}
-use Rattle.rules.specs.Laws.Distinct.{tabulate-distinct, distinct-tabulate, distinct-fills}
+use Rattle.rules.proofs.Laws.Lists.{tabulate-mem}
+use Rattle.rules.proofs.Laws.Distinct.{tabulate-distinct, distinct-tabulate, distinct-fills}
 
 module _ (next : List ℕ) (o n : ℕ) where
   -- the points of the walk are those that its steps meet

@@ -10,7 +10,7 @@ use Rattle.rules.specs.Sizes.{slots}
 use Rattle.rules.specs.Lists.{any, all, count, below, same}
 use Rattle.rules.specs.Points.{area, neighbours}
 use Rattle.rules.specs.Flood.{flooded, marked}
-use Rattle.rules.specs.Laws.Places.{count-below-le}
+use Rattle.rules.proofs.Laws.Places.{count-below-le}
 use Rattle.chains.specs.declared.group.Chain.{Chain}
 use Rattle.chains.specs.Group.{used}
 use Rattle.chains.specs.Walk.{stepped}

@@ -10,9 +10,9 @@ use borrow.Author.Tests.{eqb-true, ne_eqb}
 use Rattle.rules.specs.Sizes.{max_area, max_chains, slots}
 use Rattle.rules.specs.Lists.{count, pick, below}
 use Rattle.rules.specs.Points.{area, neighbours}
-use Rattle.rules.specs.Laws.Lists.{and_left, and_right, any_some, mem_below, below-mem, length-below, pick-mem, mem-pick, count-some}
-use Rattle.rules.specs.Laws.Counting.{below-distinct, pick-distinct, length-pick, count_none, count-not, leads-most}
-use Rattle.rules.specs.Laws.Points.{neighbours-few, neighbours-from}
+use Rattle.rules.proofs.Laws.Lists.{and_left, and_right, any_some, mem_below, below-mem, length-below, pick-mem, mem-pick, count-some}
+use Rattle.rules.proofs.Laws.Counting.{below-distinct, pick-distinct, length-pick, count_none, count-not, leads-most}
+use Rattle.rules.proofs.Laws.Points.{neighbours-few, neighbours-from}
 use Rattle.chains.specs.declared.group.Slot.TheVariants.{Full}
 use Rattle.chains.specs.Group.{used, first_free}
 use Rattle.sets.specs.Liberties.{liberty_bits}

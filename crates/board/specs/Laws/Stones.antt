@@ -12,13 +12,13 @@ use Rattle.rules.specs.Lists.{count, below}
 use Rattle.rules.specs.Points.{area}
 use Rattle.rules.specs.Chain.{chains}
 use Rattle.rules.specs.Game.{Player, stones}
-use Rattle.rules.specs.Laws.Lists.{decided, equal_or_not, get_d_default, and_left, and_right, not-both, not_yes}
-use Rattle.rules.specs.Laws.Counting.{count_none, count-or, count_same}
-use Rattle.rules.specs.Laws.Colours.{player-stone}
-use Rattle.rules.specs.Laws.Stones.{count-tabulate}
+use Rattle.rules.proofs.Laws.Lists.{decided, equal_or_not, get_d_default, and_left, and_right, not-both, not_yes}
+use Rattle.rules.proofs.Laws.Counting.{count_none, count-or, count_same}
+use Rattle.rules.proofs.Laws.Colours.{player-stone}
+use Rattle.rules.proofs.Laws.Stones.{count-tabulate}
 use Rattle.chains.specs.declared.group.Chain.{Chain}
 use Rattle.chains.specs.Group.{used, free_chain}
-use Rattle.rules.specs.Laws.Places.{count-below-zero, count-below-suc, count-below-le}
+use Rattle.rules.proofs.Laws.Places.{count-below-zero, count-below-suc, count-below-le}
 use Rattle.board.specs.declared.goban.Board.{Board}
 use Rattle.board.specs.Board.{owner, chain_in, colour_at, colours_of}
 use Rattle.board.specs.True.{TrueBoard}

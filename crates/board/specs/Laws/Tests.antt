@@ -11,8 +11,8 @@ use Rattle.rules.specs.Points.{area, column}
 use Rattle.rules.specs.Calls.{side_ok}
 use Rattle.rules.specs.Colours.{black, white}
 use Rattle.rules.specs.Game.{Player}
-use Rattle.rules.specs.Laws.Lists.{and_left, and_right, and_both, or_cases, or_left, or_right, not_yes, not-both, decided, equal_or_not}
-use Rattle.rules.specs.Laws.Lists.{all-each, all_yes, mem_below, below-mem, same-equal, same_self}
+use Rattle.rules.proofs.Laws.Lists.{and_left, and_right, and_both, or_cases, or_left, or_right, not_yes, not-both, decided, equal_or_not}
+use Rattle.rules.proofs.Laws.Lists.{all-each, all_yes, mem_below, below-mem, same-equal, same_self}
 use Rattle.chains.specs.declared.group.Chain.{Chain}
 use Rattle.chains.specs.Group.{used}
 use Rattle.sets.specs.Liberties.{set_of, number}

@@ -16,8 +16,8 @@ use Rattle.rules.specs.Points.{area}
 use Rattle.rules.specs.Calls.{side_ok}
 use Rattle.rules.specs.Colours.{empty}
 use Rattle.rules.specs.Hash.{entry, hash}
-use Rattle.rules.specs.Laws.Lists.{and_left, and_right, all-each, mem_below, not_yes, decided, equal_or_not, get_or-within, length-tabulate, get_or-tabulate-zero, get_or-replicate-same}
-use Rattle.rules.specs.Laws.Colours.{player-stone}
+use Rattle.rules.proofs.Laws.Lists.{and_left, and_right, all-each, mem_below, not_yes, decided, equal_or_not, get_or-within, length-tabulate, get_or-tabulate-zero, get_or-replicate-same}
+use Rattle.rules.proofs.Laws.Colours.{player-stone}
 use Rattle.chains.specs.declared.group.Chain.{Chain}
 use Rattle.chains.specs.Group.{used}
 use Rattle.board.specs.declared.goban.Board.{Board}

@@ -17,14 +17,14 @@ use Rattle.rules.specs.Colours.{empty, at}
 use Rattle.rules.specs.Reach.{Walk}
 use Rattle.rules.specs.Flood.{chain, marked}
 use Rattle.rules.specs.Chain.{size, liberty, liberties, leads, chains}
-use Rattle.rules.specs.Laws.Lists.{decided, not_yes, not-both, and_left, and_right, and_both, any-yes, any_some, any_none, mem_below, below-mem, pick-mem, mem-pick, same_answer}
-use Rattle.rules.specs.Laws.Counting.{below-distinct, pick-distinct, length-pick, pigeonhole}
-use Rattle.rules.specs.Laws.Colours.{player-stone}
-use Rattle.rules.specs.Laws.Points.{neighbours-from}
-use Rattle.rules.specs.Laws.Flood.{chain_length, chain-marks}
+use Rattle.rules.proofs.Laws.Lists.{decided, not_yes, not-both, and_left, and_right, and_both, any-yes, any_some, any_none, mem_below, below-mem, pick-mem, mem-pick, same_answer}
+use Rattle.rules.proofs.Laws.Counting.{below-distinct, pick-distinct, length-pick, pigeonhole}
+use Rattle.rules.proofs.Laws.Colours.{player-stone}
+use Rattle.rules.proofs.Laws.Points.{neighbours-from}
+use Rattle.rules.proofs.Laws.Flood.{chain_length, chain-marks}
 use Rattle.chains.specs.Group.{used}
 use Rattle.sets.specs.Liberties.{has, number, liberty_bits}
-use Rattle.rules.specs.Laws.Places.{count-below-zero, count-below-first, count-below-ext}
+use Rattle.rules.proofs.Laws.Places.{count-below-zero, count-below-first, count-below-ext}
 use Rattle.sets.specs.Laws.Liberties.{has-set_of, number-below}
 use Rattle.board.specs.declared.goban.Board.{Board}
 use Rattle.board.specs.Board.{owner, chain_in, colour_at, colours_of}

@@ -9,8 +9,8 @@ use Rattle.std.proofs.Math.Nat.{le_trans, min-le_left, min-le_right, le-min}
 use Rattle.rules.specs.Sizes.{max_area}
 use Rattle.rules.specs.Lists.{tabulate}
 use Rattle.chains.specs.Walk.{stepped, walked, on_board, walk_length}
-use Rattle.rules.specs.Laws.Lists.{length-tabulate, get_d_tabulate, tabulate-mem, mem-tabulate}
-use Rattle.rules.specs.Laws.Places.{tabulate-ext, tabulate-suc, tabulate-shift}
+use Rattle.rules.proofs.Laws.Lists.{length-tabulate, get_d_tabulate, tabulate-mem, mem-tabulate}
+use Rattle.rules.proofs.Laws.Places.{tabulate-ext, tabulate-suc, tabulate-shift}
 
 module _ (next : List ℕ) where
   -- the first step taken first

@@ -14,11 +14,11 @@ use Rattle.rules.specs.Flags.{SUICIDE, forbids}
 use Rattle.rules.specs.Tests.{in_atari, suicide, ko, eye, captures, superko}
 use Rattle.rules.specs.Answers.{OffBoard, PointNotEmpty, number, accepts}
 use Rattle.rules.specs.Calls.{off_board, taken, resulting, forbidden_answer, point_answer}
-use Rattle.rules.specs.Laws.Lists.{and_right, not_yes, not-both}
+use Rattle.rules.proofs.Laws.Lists.{and_right, not_yes, not-both}
 use Rattle.board.specs.declared.goban.Board.{Board}
 use Rattle.board.specs.Board.{colours_of}
-use Rattle.rules.specs.Laws.Answers.{zero-accepts, refused-then, passed_then}
-use Rattle.rules.specs.Laws.Calls.{accepted-on, accepted-empty, accepted-no-suicide}
+use Rattle.rules.proofs.Laws.Answers.{zero-accepts, refused-then, passed_then}
+use Rattle.rules.proofs.Laws.Calls.{accepted-on, accepted-empty, accepted-no-suicide}
 use Rattle.board.specs.True.{TrueBoard}
 use Rattle.history.specs.Packing.{on_largest}
 use Rattle.laying.specs.Laying.{Laying}

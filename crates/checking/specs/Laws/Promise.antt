@@ -6,10 +6,10 @@ use Rattle.rules.specs.Sizes.{max_flags}
 use Rattle.rules.specs.Answers.{Answer, BadFlags, Damaged, number}
 use Rattle.rules.specs.Calls.{flags_answer, check_answer, point_answer}
 use Rattle.rules.specs.Game as rules
-use Rattle.rules.specs.Laws.Lists.{both_ways}
+use Rattle.rules.proofs.Laws.Lists.{both_ways}
 use Rattle.listing.specs.declared.list.Listed.{Listed}
 use Rattle.listing.specs.Lists.{Left}
-use Rattle.rules.specs.Laws.Answers.{refused-then, passed_then}
+use Rattle.rules.proofs.Laws.Answers.{refused-then, passed_then}
 use Rattle.listing.specs.Laws.Answers.{left-refused}
 use Rattle.listing.specs.Laws.Unique.{left_unique}
 use Rattle.checking.specs.Promise.{Checked, Filled}

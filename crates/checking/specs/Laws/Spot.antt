@@ -8,9 +8,9 @@ use Rattle.rules.specs.Points.{area, index, row, column}
 use Rattle.rules.specs.Colours as colours
 use Rattle.rules.specs.Colours.{at}
 use Rattle.rules.specs.Calls.{outside}
-use Rattle.rules.specs.Laws.Lists.{or-none-left, or-none-right}
-use Rattle.rules.specs.Laws.Points.{index_on, index-row-column, row_on, column-on}
-use Rattle.rules.specs.Laws.Calls.{off-not-on}
+use Rattle.rules.proofs.Laws.Lists.{or-none-left, or-none-right}
+use Rattle.rules.proofs.Laws.Points.{index_on, index-row-column, row_on, column-on}
+use Rattle.rules.proofs.Laws.Calls.{off-not-on}
 use Rattle.checking.specs.declared.spot.Spot.TheVariants.{Off, Stone, Empty}
 use Rattle.checking.specs.Spot.{spot_of}
 

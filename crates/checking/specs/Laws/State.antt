@@ -8,7 +8,7 @@ use Rattle.rules.specs.Sizes.{record_bytes, max_area, max_flags, max_stones}
 use Rattle.rules.specs.Points.{area}
 use Rattle.rules.specs.Colours.{black, white}
 use Rattle.rules.specs.Game.{stones}
-use Rattle.rules.specs.Laws.Lists.{equal_or_not, below_or_not}
+use Rattle.rules.proofs.Laws.Lists.{equal_or_not, below_or_not}
 use Rattle.board.specs.Board.{colours_of}
 use Rattle.board.specs.Laws.Judge.{true-or-not}
 use Rattle.game.specs.declared.state.Game.{Game}

@@ -6,8 +6,8 @@ use Rattle.std.proofs.Common.{◌∙◌}
 use Rattle.rules.specs.Flags.{KO, SUICIDE, FILLEYE, SUPERKO, forbids}
 use Rattle.rules.specs.Answers as answers
 use Rattle.rules.specs.Answers.{number, accepts, refuse, ◌then◌}
-use Rattle.rules.specs.Laws.Lists.{not-both}
-use Rattle.rules.specs.Laws.Answers.{accepts-zero, refuses-other}
+use Rattle.rules.proofs.Laws.Lists.{not-both}
+use Rattle.rules.proofs.Laws.Answers.{accepts-zero, refuses-other}
 use Rattle.checking.specs.declared.superko.Told.{Told}
 use Rattle.checking.specs.declared.superko.Told.TheVariants.{Answer, IfRecorded}
 use Rattle.checking.specs.Told.{superko_told, first_refusal, told_of, settled, known, undecided}

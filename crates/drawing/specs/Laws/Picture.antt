@@ -12,7 +12,7 @@ use Rattle.rules.specs.Colours.{black, white, at}
 use Rattle.rules.specs.Points.{index}
 use Rattle.rules.specs.Answers.{BadLength, number}
 use Rattle.rules.specs.Picture.{grid_sign, sign, utf8, row_from, rows_from, picture, picture_bytes, picture_answer}
-use Rattle.rules.specs.Laws.Answers.{refuses, passes}
+use Rattle.rules.proofs.Laws.Answers.{refuses, passes}
 use Rattle.viewing.specs.Front.{Front}
 use Rattle.drawing.specs.Picture.{signed, rest, Drawing}
 use Rattle.viewing.specs.Laws.Front.{front-none, front-more}

@@ -2,9 +2,9 @@
 use Rattle.std.specs.Prelude.{◌≡◌, refl, Bool, true, false, cond, ◌&&◌, ◌||◌, List, [], ◌∷◌, ℕ, suc, ◌+◌, ◌<◌, eqb, ltb, length, get_or, take}
 use Rattle.std.proofs.Common.{sym, ap, ◌∙◌, zero-add, add-one, arith, take-suc, eqb-true, eq-eqb, ne_eqb, lt-ltb}
 use Rattle.rules.specs.Lists.{any, all, count}
-use Rattle.rules.specs.Laws.Lists.{same_answer}
-use Rattle.rules.specs.Laws.Counting.{count_most}
-use Rattle.rules.specs.Laws.Places.{count-append}
+use Rattle.rules.proofs.Laws.Lists.{same_answer}
+use Rattle.rules.proofs.Laws.Counting.{count_most}
+use Rattle.rules.proofs.Laws.Places.{count-append}
 
 eqb-more : (a b : ℕ) → eqb a b ≡ eqb (1 + a) (suc b)
 eqb-more a b =

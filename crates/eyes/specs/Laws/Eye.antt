@@ -11,9 +11,9 @@ use Rattle.rules.specs.Lists.{any, all, pick, present}
 use Rattle.rules.specs.Colours.{empty, other, at}
 use Rattle.rules.specs.Points.{Shift, area, towards, neighbours, corners}
 use Rattle.rules.specs.Tests.{friendly, friendly_corners, two_or_three, empty_corners, eye_among, eye}
-use Rattle.rules.specs.Laws.Lists.{present-mem, any_same, all_same, pick_same}
-use Rattle.rules.specs.Laws.Counting.{count_same}
-use Rattle.rules.specs.Laws.Points.{towards-step, neighbours-on}
+use Rattle.rules.proofs.Laws.Lists.{present-mem, any_same, all_same, pick_same}
+use Rattle.rules.proofs.Laws.Counting.{count_same}
+use Rattle.rules.proofs.Laws.Points.{towards-step, neighbours-on}
 use Rattle.eyes.specs.declared.eye.Said.TheVariants.{Eye, NoEye, Next}
 use Rattle.eyes.specs.Eye.{said, scanned, decides}
 

@@ -11,8 +11,8 @@ use borrow.Author.Tests.{eq-eqb, ne_eqb, lt-ltb, le-ltb}
 use Rattle.rules.specs.Sizes.{max_area}
 use Rattle.rules.specs.Points.{area, index, row, column, Shift, back, stay, forth, shifted, towards}
 use Rattle.rules.specs.Flood.{marked}
-use Rattle.rules.specs.Laws.Lists.{equal_or_not, below_or_not, get_or-replicate-same}
-use Rattle.rules.specs.Laws.Points.{index-row-column, column-index, column-on, towards-step}
+use Rattle.rules.proofs.Laws.Lists.{equal_or_not, below_or_not, get_or-replicate-same}
+use Rattle.rules.proofs.Laws.Points.{index-row-column, column-index, column-on, towards-step}
 use Rattle.points.specs.Place.{Within}
 use Rattle.owning.specs.Owners.{RowStarts}
 

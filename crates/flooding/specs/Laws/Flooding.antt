@@ -13,11 +13,11 @@ use Rattle.rules.specs.Sizes.{slots}
 use Rattle.rules.specs.Lists.{any, count, below, has}
 use Rattle.rules.specs.Points.{area, neighbours}
 use Rattle.rules.specs.Reach.{Walk, here, step}
-use Rattle.rules.specs.Laws.Lists.{and_left, and_right, and_both, not_yes, decided, equal_or_not, below_or_not, same_answer}
-use Rattle.rules.specs.Laws.Lists.{any-yes, any_some, mem_below, below-mem, mem-has, has-mem}
-use Rattle.rules.specs.Laws.Counting.{count_same, count-or}
-use Rattle.rules.specs.Laws.Points.{neighbours-sym}
-use Rattle.rules.specs.Laws.Reach.{walk-on}
+use Rattle.rules.proofs.Laws.Lists.{and_left, and_right, and_both, not_yes, decided, equal_or_not, below_or_not, same_answer}
+use Rattle.rules.proofs.Laws.Lists.{any-yes, any_some, mem_below, below-mem, mem-has, has-mem}
+use Rattle.rules.proofs.Laws.Counting.{count_same, count-or}
+use Rattle.rules.proofs.Laws.Points.{neighbours-sym}
+use Rattle.rules.proofs.Laws.Reach.{walk-on}
 use Rattle.owning.specs.Owners.{owner_in}
 use Rattle.flooding.specs.Flood.{found, shore, seen_words, sees, Ready, wanted, Looked, Flooded}
 use Rattle.owning.specs.Laws.Lists.{has_one, any_append, any_same, below_next}

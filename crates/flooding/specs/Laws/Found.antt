@@ -12,11 +12,11 @@ use Rattle.rules.specs.Sizes.{slots}
 use Rattle.rules.specs.Points.{area, neighbours}
 use Rattle.rules.specs.Reach.{Walk, here, step}
 use Rattle.rules.specs.Flood.{flooded, marked}
-use Rattle.rules.specs.Laws.Lists.{and_right, not_yes, any_some}
-use Rattle.rules.specs.Laws.Points.{neighbours-on, neighbours-from, neighbours-few}
-use Rattle.rules.specs.Laws.Reach.{walk-last}
-use Rattle.rules.specs.Laws.Run.{flooded-marks}
-use Rattle.rules.specs.Laws.Flood.{eqb-means}
+use Rattle.rules.proofs.Laws.Lists.{and_right, not_yes, any_some}
+use Rattle.rules.proofs.Laws.Points.{neighbours-on, neighbours-from, neighbours-few}
+use Rattle.rules.proofs.Laws.Reach.{walk-last}
+use Rattle.rules.proofs.Laws.Run.{flooded-marks}
+use Rattle.rules.proofs.Laws.Flood.{eqb-means}
 use Rattle.flooding.specs.Flood.{found, shore}
 
 module _ (h w : ℕ) where

@@ -15,10 +15,10 @@ use Rattle.rules.specs.Lists.{count, below, has, tabulate, present}
 use Rattle.rules.specs.Points.{area, back, stay, forth, towards, sides, neighbours}
 use Rattle.rules.specs.Colours.{empty, at}
 use Rattle.rules.specs.Hash.{hash, stone_hash}
-use Rattle.rules.specs.Laws.Lists.{and_left, and_right, and_both, or_cases, or_left, or_right, not-both, decided, equal_or_not, below_or_not, cond-or}
-use Rattle.rules.specs.Laws.Lists.{length-tabulate, get_or-tabulate-zero, mem_below}
-use Rattle.rules.specs.Laws.Counting.{count_same, count-or, count-equal, below-distinct}
-use Rattle.rules.specs.Laws.Hash.{hash-put}
+use Rattle.rules.proofs.Laws.Lists.{and_left, and_right, and_both, or_cases, or_left, or_right, not-both, decided, equal_or_not, below_or_not, cond-or}
+use Rattle.rules.proofs.Laws.Lists.{length-tabulate, get_or-tabulate-zero, mem_below}
+use Rattle.rules.proofs.Laws.Counting.{count_same, count-or, count-equal, below-distinct}
+use Rattle.rules.proofs.Laws.Hash.{hash-put}
 use Rattle.owning.specs.Owners.{owner_in}
 use Rattle.flooding.specs.Flood.{hash_of, seen_words, sees, Saw, Queued, Ready, wanted, Looked}
 use Rattle.owning.specs.Laws.Lists.{has-append, has_one}

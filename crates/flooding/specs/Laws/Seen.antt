@@ -8,8 +8,8 @@ use Rattle.std.specs.Int.Bits.{bit_or, or_add_and, or_self}
 use Rattle.std.proofs.lemmas.Nat.{and_le_l, and_le_r}
 use Rattle.rules.specs.Sizes.{max_area}
 use Rattle.rules.specs.Lists.{same, below}
-use Rattle.rules.specs.Laws.Lists.{not_yes, same-equal, same_self, equal_or_not, below_or_not, below-mem, get_or-replicate-same}
-use Rattle.rules.specs.Laws.Counting.{count_none}
+use Rattle.rules.proofs.Laws.Lists.{not_yes, same-equal, same_self, equal_or_not, below_or_not, below-mem, get_or-replicate-same}
+use Rattle.rules.proofs.Laws.Counting.{count_none}
 use Rattle.sets.specs.Liberties.{LibertySet, bit_at, number_of, has, set_of, number, liberty_bits}
 use Rattle.sets.specs.Laws.Bits.{bit_at-none, bit_at-or, bit_at-power, bit_at-number_of, number_of-ext, number_of-bit_at, no_bit_zero}
 use Rattle.sets.specs.Laws.Liberties.{has-byte, has-set_of, has-past, set_is, number-set_of, number-none}

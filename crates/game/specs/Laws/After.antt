@@ -7,8 +7,8 @@ use Rattle.rules.specs.Colours.{white, other}
 use Rattle.rules.specs.Answers.{Accepted, GamePaused, number, accepts, refuse}
 use Rattle.rules.specs.Game as rules
 use Rattle.rules.specs.Calls.{Result, result, paused, pause_answer, pass_game, pass, resign_game, resign, resume_game, resume}
-use Rattle.rules.specs.Laws.Lists.{decided}
-use Rattle.rules.specs.Laws.Keep.{pass-true, resign-true, resume-true}
+use Rattle.rules.proofs.Laws.Lists.{decided}
+use Rattle.rules.proofs.Laws.Keep.{pass-true, resign-true, resume-true}
 use Rattle.board.specs.Board.{colours_of}
 use Rattle.board.specs.declared.goban.Board.{Board}
 use Rattle.game.specs.declared.state.Game.{Game}

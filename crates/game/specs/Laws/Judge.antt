@@ -9,7 +9,7 @@ use Rattle.rules.specs.Sizes.{max_stones}
 use Rattle.rules.specs.Points.{area}
 use Rattle.rules.specs.Colours.{black, white}
 use Rattle.rules.specs.Game.{Player, stones}
-use Rattle.rules.specs.Laws.Lists.{decided}
+use Rattle.rules.proofs.Laws.Lists.{decided}
 use Rattle.board.specs.declared.goban.Board.{Board}
 use Rattle.board.specs.declared.judge.Verdict.{Verdict}
 use Rattle.board.specs.Board.{colours_of}

@@ -9,8 +9,8 @@ use Rattle.rules.specs.Answers.{Answer, Accepted, BadSize, BadFlags, Damaged, nu
 use Rattle.rules.specs.Game as rules
 use Rattle.rules.specs.Game.{TrueSize}
 use Rattle.rules.specs.Calls.{Result, result, side_ok, size_answer, flags_answer, new_answer, new_game}
-use Rattle.rules.specs.Laws.Lists.{and_both}
-use Rattle.rules.specs.Laws.Calls.{size-true}
+use Rattle.rules.proofs.Laws.Lists.{and_both}
+use Rattle.rules.proofs.Laws.Calls.{size-true}
 use Rattle.game.specs.declared.state.Game.{Game}
 use Rattle.game.specs.View.{view_of, TrueState, fresh_state}
 use Rattle.game.specs.Promise.{Made, CalledAlone}

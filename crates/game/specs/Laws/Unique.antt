@@ -5,7 +5,7 @@ use Rattle.std.proofs.Math.Logic.{⊎_map}
 use Rattle.std.proofs.Math.Option.{Option, none, some, none-ne-some, some-injective}
 use Rattle.rules.specs.Lists.{same}
 use Rattle.rules.specs.Game as rules
-use Rattle.rules.specs.Laws.Lists.{decided, equal_or_not, both_ways, not-both, same-equal, same_self}
+use Rattle.rules.proofs.Laws.Lists.{decided, equal_or_not, both_ways, not-both, same-equal, same_self}
 
 either_way : {A P : Type 0} {x y : A} → (x ≡ y) ⊎ ¬ (x ≡ y) → (P → x ≡ y) → (¬ P → x ≡ y) → x ≡ y
 either_way (inl e) f g = e

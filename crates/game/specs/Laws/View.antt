@@ -7,8 +7,8 @@ use Rattle.rules.specs.Points.{area}
 use Rattle.rules.specs.Colours.{empty, black, white}
 use Rattle.rules.specs.Records.{capacity}
 use Rattle.rules.specs.Game as rules
-use Rattle.rules.specs.Laws.Lists.{decided}
-use Rattle.rules.specs.Laws.Stones.{stones-none}
+use Rattle.rules.proofs.Laws.Lists.{decided}
+use Rattle.rules.proofs.Laws.Stones.{stones-none}
 use Rattle.board.specs.Board.{colours_of, new_board}
 use Rattle.board.specs.Laws.Chains.{true-colours}
 use Rattle.board.specs.declared.goban.Board.{Board}

@@ -11,7 +11,7 @@ use Rattle.rules.specs.Flood.{chain, marked}
 use Rattle.rules.specs.Chain.{liberty}
 use Rattle.rules.specs.Tests.{in_atari}
 use Rattle.rules.specs.Answers as answers
-use Rattle.rules.specs.Laws.Lists.{decided, not-both, equal_or_not}
+use Rattle.rules.proofs.Laws.Lists.{decided, not-both, equal_or_not}
 use Rattle.sets.specs.Liberties.{has}
 use Rattle.board.specs.declared.goban.Board.{Board}
 use Rattle.board.specs.Board.{owner, chain_in, colour_at, colours_of}

@@ -9,8 +9,8 @@ use Rattle.std.proofs.Math.ListN.{take, drop}
 use Rattle.rules.specs.Sizes.{record_bytes}
 use Rattle.rules.specs.Lists.{below, same}
 use Rattle.rules.specs.Records.{record_of, capacity, stored, recorded, records_after, bytes_after}
-use Rattle.rules.specs.Laws.Lists.{any-yes, any_none, mem_below, below-mem}
-use Rattle.rules.specs.Laws.Records.{length-record, room}
+use Rattle.rules.proofs.Laws.Lists.{any-yes, any_none, mem_below, below-mem}
+use Rattle.rules.proofs.Laws.Records.{length-record, room}
 use Rattle.history.specs.History.{among, Noting, Noted, Adding}
 
 -- the code looks for a record as the rules look for a board

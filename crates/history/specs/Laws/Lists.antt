@@ -3,7 +3,7 @@ use Rattle.std.specs.Prelude.{◌≡◌, refl, true, false, List, ◌++◌, ℕ,
 use Rattle.std.proofs.Common.{ap, ◌∙◌, append_assoc, add-one, arith, take_all, ext_get_or}
 use Rattle.std.proofs.Math.Seq.{paste, paste-suc}
 use Rattle.rules.specs.Lists.{same}
-use Rattle.rules.specs.Laws.Lists.{not_yes, same-equal, same_self}
+use Rattle.rules.proofs.Laws.Lists.{not_yes, same-equal, same_self}
 
 -- ---- d, in which the first j elements of s stand from the place k on
 

@@ -7,7 +7,7 @@ use Rattle.rules.specs.Sizes.{max_area, hash_bytes, colour_bytes, record_bytes}
 use Rattle.rules.specs.Lists.{tabulate}
 use Rattle.rules.specs.Colours.{empty, at}
 use Rattle.rules.specs.Records.{low_bytes, four_colours}
-use Rattle.rules.specs.Laws.Lists.{decided, length-tabulate, get_or-tabulate-zero, get_or-tabulate-beyond}
+use Rattle.rules.proofs.Laws.Lists.{decided, length-tabulate, get_or-tabulate-zero, get_or-tabulate-beyond}
 use Rattle.history.specs.Packing.{on_largest, colour_part, record_by}
 
 -- ---- The colours of the largest board's points

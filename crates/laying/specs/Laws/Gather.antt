@@ -13,9 +13,9 @@ use Prim.Native.Nat.{ℕ}
 use Rattle.std.proofs.lemmas.Bool.{eqb-false, not-true}
 use Rattle.rules.specs.Points.{neighbours}
 use Rattle.rules.specs.Game.{Player}
-use Rattle.rules.specs.Laws.Lists.{and_left, and_right, and_both, decided, not-both, equal_or_not}
-use Rattle.rules.specs.Laws.Colours.{player-stone}
-use Rattle.rules.specs.Laws.Points.{neighbours-sym}
+use Rattle.rules.proofs.Laws.Lists.{and_left, and_right, and_both, decided, not-both, equal_or_not}
+use Rattle.rules.proofs.Laws.Colours.{player-stone}
+use Rattle.rules.proofs.Laws.Points.{neighbours-sym}
 use Rattle.chains.specs.Group.{used}
 use Rattle.board.specs.declared.goban.Board.{Board}
 use Rattle.board.specs.Board.{owner, chain_in, colour_at}

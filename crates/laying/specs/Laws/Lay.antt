@@ -21,12 +21,12 @@ use Rattle.rules.specs.Flags.{SUICIDE, forbids}
 use Rattle.rules.specs.Tests.{suicide}
 use Rattle.rules.specs.Move.{coloured, captured, played, removed, sole_of}
 use Rattle.rules.specs.Game.{TrueColours}
-use Rattle.rules.specs.Laws.Lists.{and_left, and_right, and_both, decided, not-both, not_yes, not-no, equal_or_not, mem_below, mem-pick}
-use Rattle.rules.specs.Laws.Counting.{count_none, count_same, length-pick}
-use Rattle.rules.specs.Laws.Colours.{player-stone, other-player, other-apart}
-use Rattle.rules.specs.Laws.Reach.{walk-last, walk-agree}
-use Rattle.rules.specs.Laws.Flood.{clear-length, clear-clearing, clearing-clear}
-use Rattle.rules.specs.Laws.Move.{put-length, after-length, put-here, enemy-put, captured-beside, own-choked, own-was, own-after, own-stays, played-both, played-true}
+use Rattle.rules.proofs.Laws.Lists.{and_left, and_right, and_both, decided, not-both, not_yes, not-no, equal_or_not, mem_below, mem-pick}
+use Rattle.rules.proofs.Laws.Counting.{count_none, count_same, length-pick}
+use Rattle.rules.proofs.Laws.Colours.{player-stone, other-player, other-apart}
+use Rattle.rules.proofs.Laws.Reach.{walk-last, walk-agree}
+use Rattle.rules.proofs.Laws.Flood.{clear-length, clear-clearing, clearing-clear}
+use Rattle.rules.proofs.Laws.Move.{put-length, after-length, put-here, enemy-put, captured-beside, own-choked, own-was, own-after, own-stays, played-both, played-true}
 use Rattle.chains.specs.Group.{used}
 use Rattle.board.specs.declared.goban.Board.{Board}
 use Rattle.board.specs.Board.{owner, chain_in, colour_at, colours_of}

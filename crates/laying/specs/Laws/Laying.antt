@@ -10,7 +10,7 @@ use Rattle.rules.specs.Sizes.{slots}
 use Rattle.rules.specs.Points.{neighbours}
 use Rattle.rules.specs.Colours.{other}
 use Rattle.rules.specs.Flags.{SUICIDE, forbids}
-use Rattle.rules.specs.Laws.Lists.{get_d_default}
+use Rattle.rules.proofs.Laws.Lists.{get_d_default}
 use Rattle.points.specs.Place.{place_of}
 use Rattle.chains.specs.declared.group.Chain.{Chain}
 use Rattle.chains.specs.declared.group.Slot.TheVariants.{At}

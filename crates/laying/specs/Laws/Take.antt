@@ -17,9 +17,9 @@ use Rattle.rules.specs.Lists.{any, count, below, has}
 use Rattle.rules.specs.Points.{area, neighbours}
 use Rattle.rules.specs.Colours.{empty}
 use Rattle.rules.specs.Reach.{Walk, Reaches}
-use Rattle.rules.specs.Laws.Lists.{and_left, and_right, and_both, or_cases, or_left, or_right, decided, not-both, not_yes, not-no, cond-or}
-use Rattle.rules.specs.Laws.Counting.{count_same, count-or}
-use Rattle.rules.specs.Laws.Reach.{walk-last, walk_kept, walk-agree}
+use Rattle.rules.proofs.Laws.Lists.{and_left, and_right, and_both, or_cases, or_left, or_right, decided, not-both, not_yes, not-no, cond-or}
+use Rattle.rules.proofs.Laws.Counting.{count_same, count-or}
+use Rattle.rules.proofs.Laws.Reach.{walk-last, walk_kept, walk-agree}
 use Rattle.chains.specs.Group.{used}
 use Rattle.sets.specs.Liberties.{number}
 use Rattle.board.specs.declared.goban.Board.{Board}

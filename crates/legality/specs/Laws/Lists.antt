@@ -4,8 +4,8 @@ use Rattle.std.proofs.Common.{ap, ap₂, ◌∙◌, subst, arith}
 use Rattle.std.proofs.lemmas.List.{length-map}
 use Rattle.std.proofs.Math.ListN.{get_or-append, get_or-map}
 use Rattle.rules.specs.Lists.{tabulate, any}
-use Rattle.rules.specs.Laws.Lists.{get_d_default, any-yes, mem-tabulate}
-use Rattle.rules.specs.Laws.Places.{tabulate-shift}
+use Rattle.rules.proofs.Laws.Lists.{get_d_default, any-yes, mem-tabulate}
+use Rattle.rules.proofs.Laws.Places.{tabulate-shift}
 use Rattle.legality.specs.Near.{in_four}
 
 pub not-or : (a b : Bool) → not (a || b) ≡ not a && not b

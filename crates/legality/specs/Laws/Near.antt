@@ -15,9 +15,9 @@ use Rattle.rules.specs.Colours.{empty, other, at}
 use Rattle.rules.specs.Points.{neighbours}
 use Rattle.rules.specs.Chain.{size, liberties}
 use Rattle.rules.specs.Tests.{in_atari, suicide, is_ko_point, ko, captures}
-use Rattle.rules.specs.Laws.Lists.{decided, equal_or_not, any-or, any_same}
-use Rattle.rules.specs.Laws.Points.{neighbours-few}
-use Rattle.rules.specs.Laws.Places.{tabulate-ext}
+use Rattle.rules.proofs.Laws.Lists.{decided, equal_or_not, any-or, any_same}
+use Rattle.rules.proofs.Laws.Points.{neighbours-few}
+use Rattle.rules.proofs.Laws.Places.{tabulate-ext}
 use Rattle.legality.specs.declared.near.Near.{Near}
 use Rattle.legality.specs.declared.near.Beside.{Beside}
 use Rattle.legality.specs.Near.{of_stone, near_of, filled, place, besides, caught, catches_more, saves}

@@ -14,10 +14,10 @@ use Rattle.rules.specs.Records.{recorded}
 use Rattle.rules.specs.Answers as answers
 use Rattle.rules.specs.Answers.{number, accepts, refuse}
 use Rattle.rules.specs.Calls.{flags_answer, list_answer, resulting, point_answer}
-use Rattle.rules.specs.Laws.Lists.{decided, not-both}
-use Rattle.rules.specs.Laws.Calls.{then-second}
+use Rattle.rules.proofs.Laws.Lists.{decided, not-both}
+use Rattle.rules.proofs.Laws.Calls.{then-second}
 use Rattle.listing.specs.Lists.{length_answer}
-use Rattle.rules.specs.Laws.Answers.{accepts-zero}
+use Rattle.rules.proofs.Laws.Answers.{accepts-zero}
 use Rattle.listing.specs.Laws.Answers.{length-enough}
 use Rattle.board.specs.Board.{colours_of}
 use Rattle.board.specs.True.{TrueBoard}

@@ -8,7 +8,7 @@ use mathlib.Core.List.{List, [], ◌∷◌}
 use Rattle.std.proofs.Math.Option.{Option, none, some}
 use Rattle.rules.specs.Lists.{same}
 use Rattle.rules.specs.Colours.{black, white}
-use Rattle.rules.specs.Laws.Lists.{below_or_not}
+use Rattle.rules.proofs.Laws.Lists.{below_or_not}
 use Rattle.lines.specs.declared.command.Read.{Read}
 use Rattle.lines.specs.declared.command.Read.TheVariants as reads
 use Rattle.lines.specs.declared.command.Fault.{Fault}

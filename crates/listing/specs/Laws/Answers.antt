@@ -7,9 +7,9 @@ use Rattle.std.proofs.Math.ListN.{length, drop}
 use Rattle.rules.specs.Points.{area}
 use Rattle.rules.specs.Answers.{Answer, Damaged, OffBoard, BadLength, number, accepts}
 use Rattle.rules.specs.Calls.{filled}
-use Rattle.rules.specs.Laws.Lists.{or-none-left, or-none-right}
-use Rattle.rules.specs.Laws.Answers.{accepts-zero, refuses-other}
-use Rattle.rules.specs.Laws.Calls.{then-first, then-second, refuse-not}
+use Rattle.rules.proofs.Laws.Lists.{or-none-left, or-none-right}
+use Rattle.rules.proofs.Laws.Answers.{accepts-zero, refuses-other}
+use Rattle.rules.proofs.Laws.Calls.{then-first, then-second, refuse-not}
 use Rattle.board.specs.declared.goban.Board.{Board}
 use Rattle.board.specs.True.{TrueBoard}
 use Rattle.listing.specs.declared.list.Listed.{Listed}

@@ -12,8 +12,8 @@ use Rattle.rules.specs.Colours.{empty, at}
 use Rattle.rules.specs.Points.{area, index, neighbours}
 use Rattle.rules.specs.Flood.{chain, marked}
 use Rattle.rules.specs.Chain.{liberty, leads}
-use Rattle.rules.specs.Laws.Lists.{below-mem, length-tabulate, any_same, pick_same}
-use Rattle.rules.specs.Laws.Points.{index_on, neighbours-on}
+use Rattle.rules.proofs.Laws.Lists.{below-mem, length-tabulate, any_same, pick_same}
+use Rattle.rules.proofs.Laws.Points.{index_on, neighbours-on}
 use Rattle.board.specs.declared.goban.Board.{Board}
 use Rattle.board.specs.Board.{owner, colour_at, colours_of}
 use Rattle.board.specs.True.{TrueBoard}

@@ -11,8 +11,8 @@ use Rattle.rules.specs.Lists.{tabulate}
 use Rattle.rules.specs.Colours.{at}
 use Rattle.rules.specs.Points.{area, neighbours}
 use Rattle.rules.specs.Chain.{size, liberties}
-use Rattle.rules.specs.Laws.Lists.{length-tabulate, get_or-tabulate-zero}
-use Rattle.rules.specs.Laws.Points.{neighbours-on}
+use Rattle.rules.proofs.Laws.Lists.{length-tabulate, get_or-tabulate-zero}
+use Rattle.rules.proofs.Laws.Points.{neighbours-on}
 use Rattle.sets.specs.Liberties.{number}
 use Rattle.board.specs.declared.goban.Board.{Board}
 use Rattle.board.specs.Board.{owner, chain_in}

@@ -12,7 +12,7 @@ use Rattle.rules.specs.Points.{area}
 use Rattle.rules.specs.Colours.{empty, at}
 use Rattle.rules.specs.Game.{Player}
 use Rattle.rules.specs.Records.{low_bytes, record_of}
-use Rattle.rules.specs.Laws.Lists.{equal_or_not, get_or-replicate-same}
+use Rattle.rules.proofs.Laws.Lists.{equal_or_not, get_or-replicate-same}
 use Rattle.board.specs.declared.goban.Board.{Board}
 use Rattle.board.specs.Board.{owner, colours_of}
 use Rattle.board.specs.True.{TrueBoard}

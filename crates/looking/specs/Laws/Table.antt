@@ -10,8 +10,8 @@ use Rattle.rules.specs.Sizes.{max_area, slots}
 use Rattle.rules.specs.Lists.{below}
 use Rattle.rules.specs.Colours.{empty, at}
 use Rattle.rules.specs.Chain.{size, liberties}
-use Rattle.rules.specs.Laws.Lists.{equal_or_not, decided, get_d_default}
-use Rattle.rules.specs.Laws.Counting.{count_none}
+use Rattle.rules.proofs.Laws.Lists.{equal_or_not, decided, get_d_default}
+use Rattle.rules.proofs.Laws.Counting.{count_none}
 use Rattle.chains.specs.declared.group.Chain.{Chain}
 use Rattle.chains.specs.Group.{free_chain}
 use Rattle.sets.specs.Liberties.{none, number, liberty_bits}

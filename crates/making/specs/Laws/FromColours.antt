@@ -9,7 +9,7 @@ use Rattle.rules.specs.Points.{area}
 use Rattle.rules.specs.Game.{empty_board}
 use Rattle.rules.specs.Calls.{choked, size_answer, board_answer}
 use Rattle.rules.specs.Answers.{NoLiberty, BadLength, BadColour, number, accepts, ◌then◌, refuse}
-use Rattle.rules.specs.Laws.Answers.{then-refused, then-accepted, test-refuses, test-passes}
+use Rattle.rules.proofs.Laws.Answers.{then-refused, then-accepted, test-refuses, test-passes}
 use Rattle.board.specs.declared.goban.Board.{Board}
 use Rattle.placing.specs.declared.place.Placed.{Placed}
 use Rattle.placing.specs.Placing.{Stands, Outcome, Placing, PlacedOn}

@@ -6,11 +6,11 @@ use Rattle.std.proofs.Math.Bool.{not}
 use Rattle.rules.specs.Answers.{Accepted, BadSize, number, accepts}
 use Rattle.rules.specs.Calls.{side_ok, size_answer, board_answer, board_from}
 use Rattle.rules.specs.Game.{TrueSize, empty_board}
-use Rattle.rules.specs.Laws.Lists.{decided, not-both}
-use Rattle.rules.specs.Laws.Calls.{size-true}
+use Rattle.rules.proofs.Laws.Lists.{decided, not-both}
+use Rattle.rules.proofs.Laws.Calls.{size-true}
 use Rattle.board.specs.Board.{new_board}
 use Rattle.board.specs.Laws.NewBoard.{new-colours, new_true}
-use Rattle.rules.specs.Laws.Answers.{refuses, passes}
+use Rattle.rules.proofs.Laws.Answers.{refuses, passes}
 use Rattle.placing.specs.declared.place.Placed.{Placed}
 use Rattle.placing.specs.Placing.{Stands}
 use Rattle.placing.specs.Laws.Answers.{outcome-refused, outcome-accepted}

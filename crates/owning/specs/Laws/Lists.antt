@@ -6,8 +6,8 @@ use mathlib.Core.List.Memᴰ.{head}
 use mathlib.Core.List.Memᴰ.{tail}
 use mathlib.Core.List.{List, [], ◌∷◌, ◌++◌, Memᴰ}
 use Rattle.rules.specs.Lists.{all, any, has, below, tabulate}
-use Rattle.rules.specs.Laws.Lists.{all-each, all_yes, not_yes, not-both, mem_below, below-mem}
-use Rattle.rules.specs.Laws.Places.{tabulate-suc}
+use Rattle.rules.proofs.Laws.Lists.{all-each, all_yes, not_yes, not-both, mem_below, below-mem}
+use Rattle.rules.proofs.Laws.Places.{tabulate-suc}
 
 module _ {A : Type 0} where
   pub mem-get_or : (l : List A) (k : ℕ) (d : A) → k < length l → Memᴰ (get_or l k d) l

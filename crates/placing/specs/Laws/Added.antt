@@ -8,7 +8,7 @@ use Rattle.rules.specs.Colours.{empty, at}
 use Rattle.rules.specs.Flags.{forbids}
 use Rattle.rules.specs.Move.{coloured}
 use Rattle.rules.specs.Game.{Player}
-use Rattle.rules.specs.Laws.Lists.{and_left, and_right, and_both, not-both, decided}
+use Rattle.rules.proofs.Laws.Lists.{and_left, and_right, and_both, not-both, decided}
 use Rattle.board.specs.declared.goban.Board.{Board}
 use Rattle.board.specs.Board.{colours_of}
 use Rattle.board.specs.Laws.Chains.{true-colours}

@@ -3,8 +3,8 @@ use Rattle.std.specs.Prelude.{◌≡◌, true, false, List, ℕ}
 use Rattle.std.proofs.Common.{subst}
 use Rattle.rules.specs.Calls.{Spot, choked, lay_black, spots_answer, lay_answer}
 use Rattle.rules.specs.Answers.{Answer, NoLiberty, number, accepts, refuse}
-use Rattle.rules.specs.Laws.Lists.{not-both}
-use Rattle.rules.specs.Laws.Answers.{then-refused, then-accepted}
+use Rattle.rules.proofs.Laws.Lists.{not-both}
+use Rattle.rules.proofs.Laws.Answers.{then-refused, then-accepted}
 use Rattle.board.specs.declared.goban.Board.{Board}
 use Rattle.placing.specs.declared.place.Placed.{Placed}
 use Rattle.placing.specs.Placing.{Stands, Outcome}

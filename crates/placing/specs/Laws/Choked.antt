@@ -12,10 +12,10 @@ use Rattle.rules.specs.Points.{area, neighbours}
 use Rattle.rules.specs.Reach.{Walk, Reaches}
 use Rattle.rules.specs.Chain.{liberties}
 use Rattle.rules.specs.Calls.{choked}
-use Rattle.rules.specs.Laws.Lists.{and_left, and_right, and_both, not_yes, any-yes, any_some, mem_below, equal_or_not}
-use Rattle.rules.specs.Laws.Colours.{at-within}
-use Rattle.rules.specs.Laws.Reach.{walk-old}
-use Rattle.rules.specs.Laws.Chain.{liberties-reaches}
+use Rattle.rules.proofs.Laws.Lists.{and_left, and_right, and_both, not_yes, any-yes, any_some, mem_below, equal_or_not}
+use Rattle.rules.proofs.Laws.Colours.{at-within}
+use Rattle.rules.proofs.Laws.Reach.{walk-old}
+use Rattle.rules.proofs.Laws.Chain.{liberties-reaches}
 use Rattle.placing.specs.Placing.{Stuck}
 
 -- every stone of the one stands in the other

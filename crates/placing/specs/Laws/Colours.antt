@@ -10,7 +10,7 @@ use Rattle.rules.specs.Colours.{empty, black, white, at}
 use Rattle.rules.specs.Points.{area}
 use Rattle.rules.specs.Move.{coloured}
 use Rattle.rules.specs.Game.{Player, empty_board}
-use Rattle.rules.specs.Laws.Lists.{or-none-left, or-none-right, decided, equal_or_not, get_or-replicate-same}
+use Rattle.rules.proofs.Laws.Lists.{or-none-left, or-none-right, decided, equal_or_not, get_or-replicate-same}
 
 -- ---- Lists
 

@@ -7,7 +7,7 @@ use Rattle.rules.specs.Colours.{empty, at}
 use Rattle.rules.specs.Points.{area}
 use Rattle.rules.specs.Move.{coloured}
 use Rattle.rules.specs.Calls.{choked}
-use Rattle.rules.specs.Laws.Lists.{decided, equal_or_not}
+use Rattle.rules.proofs.Laws.Lists.{decided, equal_or_not}
 use Rattle.board.specs.declared.goban.Board.{Board}
 use Rattle.board.specs.Board.{colours_of}
 use Rattle.board.specs.True.{TrueBoard}

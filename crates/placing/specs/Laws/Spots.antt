@@ -15,15 +15,15 @@ use Rattle.rules.specs.Answers.{Answer, Accepted, OffBoard, PointNotEmpty, numbe
 use Rattle.rules.specs.Move.{coloured}
 use Rattle.rules.specs.Game.{TrueSize, empty_board}
 use Rattle.rules.specs.Calls.{Spot, outside, lay_black, spots_answer, lay_answer}
-use Rattle.rules.specs.Laws.Lists.{and_left, and_right, not-both, decided}
-use Rattle.rules.specs.Laws.Points.{index_on}
+use Rattle.rules.proofs.Laws.Lists.{and_left, and_right, not-both, decided}
+use Rattle.rules.proofs.Laws.Points.{index_on}
 use Rattle.board.specs.Laws.Board.{area-fits}
 use Rattle.board.specs.declared.goban.Board.{Board}
 use Rattle.placing.specs.declared.handicap.Marked.{Marked}
 use Rattle.placing.specs.declared.place.Placed.{Placed}
 use Rattle.placing.specs.Placing.{Outcome, Bare, Placing, PlacedOn, spot_of, spots_of, MarkedOut, Handicapped}
 use Rattle.placing.specs.Laws.Colours.{coloured-length, coloured-known, empty-length, empty-at}
-use Rattle.rules.specs.Laws.Answers.{test-refuses, test-passes, zero-accepts, other-refuses}
+use Rattle.rules.proofs.Laws.Answers.{test-refuses, test-passes, zero-accepts, other-refuses}
 use Rattle.placing.specs.Laws.Answers.{outcome-refused, outcome-as, lay-spots, lay-choked}
 
 take-replicate : {A : Type 0} (n m : ℕ) (a : A) → n ≤ m → take n (replicate m a) ≡ replicate n a

@@ -14,11 +14,11 @@ use Rattle.rules.specs.Flood.{clear}
 use Rattle.rules.specs.Flags.{forbids}
 use Rattle.rules.specs.Move.{coloured, captured, played, removed}
 use Rattle.rules.specs.Game.{Player, TrueColours}
-use Rattle.rules.specs.Laws.Lists.{and_left, and_right, and_both, both_ways, equal_or_not, mem_below, count-some, count-positive}
-use Rattle.rules.specs.Laws.Counting.{length-pick}
-use Rattle.rules.specs.Laws.Colours.{at-within, player-stone, player-cases, other-player, other-apart}
-use Rattle.rules.specs.Laws.Flood.{clear-length, clear-clearing}
-use Rattle.rules.specs.Laws.Move.{put-length, put-here, after-length, cleared-spares}
+use Rattle.rules.proofs.Laws.Lists.{and_left, and_right, and_both, both_ways, equal_or_not, mem_below, count-some, count-positive}
+use Rattle.rules.proofs.Laws.Counting.{length-pick}
+use Rattle.rules.proofs.Laws.Colours.{at-within, player-stone, player-cases, other-player, other-apart}
+use Rattle.rules.proofs.Laws.Flood.{clear-length, clear-clearing}
+use Rattle.rules.proofs.Laws.Move.{put-length, put-here, after-length, cleared-spares}
 use Rattle.placing.specs.Placing.{Stuck}
 use Rattle.placing.specs.Laws.Colours.{coloured-else}
 

@@ -11,11 +11,11 @@ use Rattle.rules.specs.Colours.{white}
 use Rattle.rules.specs.Answers.{Answer, number, accepts, NotAtStart}
 use Rattle.rules.specs.Game as rules
 use Rattle.rules.specs.Calls.{Spot, lay_black, lay_answer, handicap_answer, handicap_game, handicapped}
-use Rattle.rules.specs.Laws.Keep.{handicap-keeps}
+use Rattle.rules.proofs.Laws.Keep.{handicap-keeps}
 use Rattle.board.specs.Board.{colours_of}
 use Rattle.placing.specs.declared.place.Placed.{Placed}
 use Rattle.placing.specs.Placing.{Stands, Bare, spots_of, Handicapped}
-use Rattle.rules.specs.Laws.Answers.{test-refuses, test-passes, zero-accepts, other-refuses}
+use Rattle.rules.proofs.Laws.Answers.{test-refuses, test-passes, zero-accepts, other-refuses}
 use Rattle.game.specs.declared.state.Game.{Game}
 use Rattle.game.specs.View.{turn_of, ko_of, outcome_of, begun_of, view_of, TrueState}
 use Rattle.game.specs.Promise.{CalledAlone}

@@ -16,10 +16,10 @@ use Rattle.rules.specs.Records.{record_of, recorded, full, capacity, bytes_after
 use Rattle.rules.specs.Answers.{Answer, number, accepts, refuse, ◌then◌, Accepted, GamePaused, SuperKo, MoveLimit, HistoryFull}
 use Rattle.rules.specs.Game as rules
 use Rattle.rules.specs.Calls.{paused, resulting, point_answer, stone_answer, stone_game, stone}
-use Rattle.rules.specs.Laws.Lists.{equal_or_not}
-use Rattle.rules.specs.Laws.Colours.{other-player}
-use Rattle.rules.specs.Laws.Keep.{stone-keeps}
-use Rattle.rules.specs.Laws.Records.{bytes_after-length, records_after-fits}
+use Rattle.rules.proofs.Laws.Lists.{equal_or_not}
+use Rattle.rules.proofs.Laws.Colours.{other-player}
+use Rattle.rules.proofs.Laws.Keep.{stone-keeps}
+use Rattle.rules.proofs.Laws.Records.{bytes_after-length, records_after-fits}
 use Rattle.points.specs.declared.coord.Place.{Place}
 use Rattle.points.specs.declared.coord.Place.TheVariants.{Off, At}
 use Rattle.points.specs.Place.{place_of, Within}
@@ -28,7 +28,7 @@ use Rattle.board.specs.Board.{colours_of}
 use Rattle.board.specs.Laws.Board.{area-fits}
 use Rattle.laying.specs.declared.lay.Laid.{Laid}
 use Rattle.laying.specs.Laying.{Laying, LaidOut}
-use Rattle.rules.specs.Laws.Answers.{accepts-zero, refuses-other, then-refused, then-accepted, passes, test-refuses, test-passes, other-refuses}
+use Rattle.rules.proofs.Laws.Answers.{accepts-zero, refuses-other, then-refused, then-accepted, passes, test-refuses, test-passes, other-refuses}
 use Rattle.history.specs.History.{among}
 use Rattle.history.specs.Laws.History.{among-recorded}
 use Rattle.looking.specs.declared.look.Sight.{Sight}

@@ -7,7 +7,7 @@ use Rattle.std.proofs.Math.Option.{Option, none, some, none-ne-some, some-inject
 use Rattle.rules.specs.Lists.{same}
 use Rattle.rules.specs.Game as rules
 use Rattle.rules.specs.Calls.{Result}
-use Rattle.rules.specs.Laws.Lists.{decided, equal_or_not, both_ways, not-both, same-equal, same_self}
+use Rattle.rules.proofs.Laws.Lists.{decided, equal_or_not, both_ways, not-both, same-equal, same_self}
 use Rattle.game.specs.declared.state.Game.{Game}
 use Rattle.game.specs.View.{view_of}
 use Rattle.game.specs.Promise.{Called, CalledAlone}

@@ -2,8 +2,8 @@
 use Rattle.std.specs.Prelude.{◌≡◌, refl, List, [], ◌∷◌, ◌++◌, ℕ, zero, suc, ◌-◌, ◌<◌, length, get_or, replicate}
 use Rattle.std.proofs.Common.{sym, ap₂, ◌∙◌, subst, arith, take-append-drop}
 use Rattle.rules.specs.Points.{area, neighbours}
-use Rattle.rules.specs.Laws.Lists.{mem-get_or}
-use Rattle.rules.specs.Laws.Points.{neighbours-on}
+use Rattle.rules.proofs.Laws.Lists.{mem-get_or}
+use Rattle.rules.proofs.Laws.Points.{neighbours-on}
 use Rattle.points.specs.declared.coord.Around.{Around}
 use Rattle.points.specs.Around.{Holds}
 

@@ -6,7 +6,7 @@ use Rattle.std.proofs.Math.Logic.{⊎_elim}
 use borrow.Author.Tests.{eq-eqb, ne_eqb, ltb-true, ltb-false, lt-ltb, le-ltb}
 use Rattle.rules.specs.Sizes.{slots}
 use Rattle.rules.specs.Colours.{empty, at}
-use Rattle.rules.specs.Laws.Lists.{get_d_default, equal_or_not}
+use Rattle.rules.proofs.Laws.Lists.{get_d_default, equal_or_not}
 use Rattle.chains.specs.declared.group.Chain.{Chain}
 use Rattle.chains.specs.Group.{free_chain}
 use Rattle.board.specs.declared.goban.Board.{Board}

@@ -14,8 +14,8 @@ use Rattle.rules.specs.Records.{bytes_after}
 use Rattle.rules.specs.Answers.{Answer, BadSize, BadFlags, OffBoard, PointNotEmpty, number, accepts, ◌then◌, refuse}
 use Rattle.rules.specs.Game.{Game, TrueSize, fresh_game}
 use Rattle.rules.specs.Calls.{Spot, result, side_ok, size_answer, flags_answer, new_answer, new_game, outside, off_board, point_answer, check_answer, stone_answer, stone_game, stone, spots_answer, lay_answer, handicap_answer, handicap_game, handicapped, legals, list_answer}
-use Rattle.rules.specs.Laws.Lists.{below_or_not, decided, not-both, not_yes, or-none-left, or-none-right}
-use Rattle.rules.specs.Laws.Calls.{then-first, then-second, refuse-not, size-true}
+use Rattle.rules.proofs.Laws.Lists.{below_or_not, decided, not-both, not_yes, or-none-left, or-none-right}
+use Rattle.rules.proofs.Laws.Calls.{then-first, then-second, refuse-not, size-true}
 use Rattle.spelling.specs.Number.{byte_of}
 
 -- ---- Tests against small numbers

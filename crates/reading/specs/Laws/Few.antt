@@ -4,7 +4,7 @@ use Rattle.std.proofs.Common.{⊎_elim, zero-le, le_trans, arith, ltb-false}
 use Rattle.std.proofs.Math.Option.{Option, none, some}
 use Rattle.rules.specs.Lists.{same}
 use Rattle.rules.specs.Calls.{Spot}
-use Rattle.rules.specs.Laws.Lists.{decided}
+use Rattle.rules.proofs.Laws.Lists.{decided}
 use Rattle.lines.specs.declared.command.Name.{Name}
 use Rattle.lines.specs.declared.command.Name.TheVariants as names
 use Rattle.spelling.specs.Text.{ascii, text_of, blank, words_from, words}

@@ -4,7 +4,7 @@ use Rattle.std.proofs.Common.{sym, ap, ◌∙◌, arith, lt-ltb, le-ltb, eq-eqb,
 use Rattle.std.proofs.Math.Logic.{⊎_elim}
 use Rattle.std.proofs.Math.ListN.{length}
 use Rattle.std.proofs.Math.Seq.{length-take-le}
-use Rattle.rules.specs.Laws.Lists.{decided}
+use Rattle.rules.proofs.Laws.Lists.{decided}
 use Rattle.lines.specs.declared.command.Read.TheVariants as reads
 use Rattle.lines.specs.declared.command.Fault.TheVariants as faults
 use Rattle.lines.specs.declared.command.Name.{Name}

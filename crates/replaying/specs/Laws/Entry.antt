@@ -10,7 +10,7 @@ use Rattle.rules.specs.Colours.{black, white}
 use Rattle.rules.specs.Answers.{Answer, Accepted, BadKind, number, accepts}
 use Rattle.rules.specs.Game as rules
 use Rattle.rules.specs.Calls.{Result, result, stone, pause_answer, pass, pass_game, resign, resign_game, resume, resume_game, entry_call}
-use Rattle.rules.specs.Laws.Lists.{decided}
+use Rattle.rules.proofs.Laws.Lists.{decided}
 use Rattle.board.specs.declared.goban.Board.{Board}
 use Rattle.board.specs.True.{TrueBoard}
 use Rattle.laying.specs.declared.lay.Laid.{Laid}

@@ -11,9 +11,9 @@ use Rattle.rules.specs.Points.{area}
 use Rattle.rules.specs.Colours.{empty, other, at}
 use Rattle.rules.specs.Flags.{forbids}
 use Rattle.rules.specs.Move.{coloured, played, removed}
-use Rattle.rules.specs.Laws.Lists.{and_left, and_right, decided, get_d_set}
-use Rattle.rules.specs.Laws.Colours.{at-beyond}
-use Rattle.rules.specs.Laws.Move.{played-both}
+use Rattle.rules.proofs.Laws.Lists.{and_left, and_right, decided, get_d_set}
+use Rattle.rules.proofs.Laws.Colours.{at-beyond}
+use Rattle.rules.proofs.Laws.Move.{played-both}
 use Rattle.board.specs.declared.goban.Board.{Board}
 use Rattle.board.specs.Board.{colours_of}
 use Rattle.board.specs.Laws.Board.{area-fits, length-colours}

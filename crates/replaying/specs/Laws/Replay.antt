@@ -7,7 +7,7 @@ use Rattle.std.proofs.Math.ListN.{drop}
 use Rattle.std.proofs.Math.Seq.{drop-length}
 use Rattle.rules.specs.Answers.{Accepted, Damaged, number, accepts}
 use Rattle.rules.specs.Game as rules
-use Rattle.rules.specs.Laws.Lists.{both_ways}
+use Rattle.rules.proofs.Laws.Lists.{both_ways}
 use Rattle.rules.specs.Calls.{Result, Entry, entry_call, Replayed as Said, replay_from, replay}
 use Rattle.game.specs.declared.state.Game.{Game}
 use Rattle.game.specs.View.{view_of, TrueState, RoomIn}

@@ -2,7 +2,7 @@
 use Rattle.std.specs.Prelude.{◌≡◌, refl, Bool, true, false, cond, ℕ, ◌<◌, eqb}
 use Rattle.std.proofs.Common.{sym, ap, ◌∙◌, ⊎_elim, arith, eqb-true}
 use Rattle.std.proofs.Math.Option.{Option, none, some, none-ne-some}
-use Rattle.rules.specs.Laws.Lists.{not-both, not-no, decided, below_or_not, both_ways, same_answer}
+use Rattle.rules.proofs.Laws.Lists.{not-both, not-no, decided, below_or_not, both_ways, same_answer}
 use Rattle.board.specs.Laws.Board.{area-fits}
 use Rattle.points.specs.Place.{place_of, Within}
 use Rattle.game.specs.declared.state.Game.{Game}

@@ -5,7 +5,7 @@ use Rattle.std.proofs.Math.Option.{none-ne-some, some-injective}
 use Rattle.rules.specs.Answers.{Answer, Accepted, number}
 use Rattle.rules.specs.Game as rules
 use Rattle.rules.specs.Calls.{Placement, check_answer}
-use Rattle.rules.specs.Laws.Lists.{decided}
+use Rattle.rules.proofs.Laws.Lists.{decided}
 use Rattle.points.specs.declared.coord.Place.{Place}
 use Rattle.points.specs.declared.coord.Place.TheVariants.{Off, At}
 use Rattle.points.specs.Place.{place_of}

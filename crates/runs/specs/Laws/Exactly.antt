@@ -10,7 +10,7 @@ use Rattle.rules.specs.Move.{coloured}
 use Rattle.rules.specs.Answers.{Answer, Damaged, NoLiberty, number}
 use Rattle.rules.specs.Game.{Game}
 use Rattle.rules.specs.Calls.{result, stone, pass, resign, resume, handicapped, Spot, choked, lay_black, Entry, entry_call, replay, check_answer, board_answer, list_answer}
-use Rattle.rules.specs.Laws.Lists.{and_left, and_right, not-both}
+use Rattle.rules.proofs.Laws.Lists.{and_left, and_right, not-both}
 use Rattle.game.specs.View.{view_of}
 use Rattle.rules.specs.Picture.{picture, picture_answer}
 use Rattle.board.specs.declared.goban.Board.{Board}

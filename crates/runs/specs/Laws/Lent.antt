@@ -9,9 +9,9 @@ use Rattle.rules.specs.Records.{capacity, full, records_after}
 use Rattle.rules.specs.Answers.{HistoryFull, number, accepts}
 use Rattle.rules.specs.Game.{Game}
 use Rattle.rules.specs.Calls.{result, stone, stone_answer, stone_game}
-use Rattle.rules.specs.Laws.Lists.{decided}
-use Rattle.rules.specs.Laws.Calls.{then-second, refuse-not}
-use Rattle.rules.specs.Laws.Records.{bytes_after-length, bytes_after-beyond, records_after-fits}
+use Rattle.rules.proofs.Laws.Lists.{decided}
+use Rattle.rules.proofs.Laws.Calls.{then-second, refuse-not}
+use Rattle.rules.proofs.Laws.Records.{bytes_after-length, bytes_after-beyond, records_after-fits}
 
 -- what a call leaves of the lent bytes, and that they have room for what the state counts then
 pub record Lent (bytes bytes' : List ℕ) (records : ℕ) : Type 0 where

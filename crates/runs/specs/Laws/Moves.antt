@@ -8,8 +8,8 @@ use Rattle.rules.specs.Records.{capacity}
 use Rattle.rules.specs.Answers.{accepts}
 use Rattle.rules.specs.Game.{Game, TrueGame}
 use Rattle.rules.specs.Calls.{result, stone, stone_game, Entry, entry_call, Replayed, replay_from}
-use Rattle.rules.specs.Laws.Lists.{decided}
-use Rattle.rules.specs.Laws.Calls.{stone-move}
+use Rattle.rules.proofs.Laws.Lists.{decided}
+use Rattle.rules.proofs.Laws.Calls.{stone-move}
 use Rattle.runs.specs.Runs.{turn_by, turn_over}
 use Rattle.runs.specs.Orders.{first_of, entry_rows, accepted_of}
 use Rattle.runs.specs.Laws.Lent.{lent-room}

@@ -18,12 +18,12 @@ use Rattle.rules.specs.Answers.{HistoryFull, NotAtStart, NoLiberty, BadLength, B
 use Rattle.rules.specs.Game.{Game}
 use Rattle.rules.specs.Calls.{size_answer, flags_answer, new_answer, forbidden_answer, point_answer, check_answer, stone_answer, pause_answer, Spot, spots_answer, lay_answer}
 use Rattle.rules.specs.Calls.{result, stone, pass, resign, resume, handicap_answer, board_answer, list_answer, choked, lay_black, Entry, entry_call, Replayed, replay_from}
-use Rattle.rules.specs.Laws.Lists.{decided, and_left, and_right, and_both}
+use Rattle.rules.proofs.Laws.Lists.{decided, and_left, and_right, and_both}
 use Rattle.rules.specs.Picture.{picture_answer}
 use Rattle.viewing.specs.declared.shows.Question.{Question}
 use Rattle.viewing.specs.declared.shows.Question.TheVariants as questions
 use Rattle.listing.specs.Lists as listing
-use Rattle.rules.specs.Laws.Answers.{then-refused, then-accepted}
+use Rattle.rules.proofs.Laws.Answers.{then-refused, then-accepted}
 use Rattle.runs.specs.Orders.{Row, row, first_of, First, clear, this, later}
 use Rattle.runs.specs.Orders.{new_rows, forbidden_rows, point_rows, check_rows, stone_rows, pause_rows, spot_rows, handicap_rows, board_rows, list_rows, length_rows, question_rows, picture_rows, entry_rows, replay_rows, accepted_of}
 use Rattle.replaying.specs.Laws.Replay.{replay-on, replay-stop}

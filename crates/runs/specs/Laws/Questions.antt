@@ -5,7 +5,7 @@ use Rattle.std.proofs.Common.{sym, ap, ◌∙◌, subst, ⊎_elim}
 use Rattle.rules.specs.Answers.{Answer, Accepted, number, accepts}
 use Rattle.rules.specs.Game as rules
 use Rattle.rules.specs.Calls.{off_board, list_answer, legals}
-use Rattle.rules.specs.Laws.Lists.{decided}
+use Rattle.rules.proofs.Laws.Lists.{decided}
 use Rattle.board.specs.declared.goban.Board.{Board}
 use Rattle.board.specs.Board.{colours_of}
 use Rattle.queries.specs.declared.goban.TestAnswer.{TestAnswer}

@@ -11,8 +11,8 @@ use Rattle.rules.specs.Records.{capacity}
 use Rattle.rules.specs.Answers.{Answer, Accepted, BadKind, number, accepts}
 use Rattle.rules.specs.Game.{Game, TrueGame, Player}
 use Rattle.rules.specs.Calls.{Result, result, stone_game, stone, pass_game, pass, resign_game, resign, resume_game, resume, one_if, Entry, entry_call, Replayed, replay_from, replay}
-use Rattle.rules.specs.Laws.Lists.{decided}
-use Rattle.rules.specs.Laws.Keep.{pass-true, resign-true, resume-true, stone-keeps}
+use Rattle.rules.proofs.Laws.Lists.{decided}
+use Rattle.rules.proofs.Laws.Keep.{pass-true, resign-true, resume-true, stone-keeps}
 use Rattle.replaying.specs.Laws.Replay.{replay-on, replay-stop}
 use Rattle.runs.specs.Runs.{turn_over, put_over}
 use Rattle.runs.specs.Laws.Lent.{Lent, lent_same, lent-on, lent-room, stone-lent}

@@ -14,7 +14,7 @@ use Rattle.rules.specs.Game as rules
 use Rattle.rules.specs.Game.{fresh_game}
 use Rattle.rules.specs.Calls.{Spot, Entry, result, stone, pass, resign, resume, handicapped, replay, stone_answer, stone_game, pause_answer, pass_game}
 use Rattle.rules.specs.Calls.{resign_game, resume_game, handicap_answer, handicap_game, new_game, new_answer}
-use Rattle.rules.specs.Laws.Lists.{decided}
+use Rattle.rules.proofs.Laws.Lists.{decided}
 use Rattle.board.specs.Board.{colours_of}
 use Rattle.game.specs.declared.state.Game.{Game}
 use Rattle.game.specs.View.{turn_of, view_of, TrueState, RoomIn}

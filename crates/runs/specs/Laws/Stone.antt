@@ -14,8 +14,8 @@ use Rattle.rules.specs.Answers.{accepts}
 use Rattle.rules.specs.Game as rules
 use Rattle.rules.specs.Calls.{resulting, stone_answer, stone_game, result, point_answer}
 use Rattle.rules.specs.Calls as calls
-use Rattle.rules.specs.Laws.Calls.{then-first, then-second, accepted-on, accepted-empty, stone-move}
-use Rattle.rules.specs.Laws.Move.{own-after}
+use Rattle.rules.proofs.Laws.Calls.{then-first, then-second, accepted-on, accepted-empty, stone-move}
+use Rattle.rules.proofs.Laws.Move.{own-after}
 use Rattle.board.specs.Board.{colours_of}
 use Rattle.game.specs.View.{view_of}
 use Rattle.runs.specs.Runs.{Reply, Desk, Sound, Step, accepted, stone}

@@ -4,8 +4,8 @@ use Rattle.std.proofs.Common.{sym, arith}
 use Rattle.std.proofs.lemmas.Bool.{not-true}
 use Rattle.rules.specs.Sizes.{slots}
 use Rattle.rules.specs.Lists.{count, below}
-use Rattle.rules.specs.Laws.Lists.{below-mem, count-some, length-below}
-use Rattle.rules.specs.Laws.Counting.{count-not}
+use Rattle.rules.proofs.Laws.Lists.{below-mem, count-some, length-below}
+use Rattle.rules.proofs.Laws.Counting.{count-not}
 use Rattle.chains.specs.Group.{used}
 use Rattle.board.specs.declared.goban.Board.{Board}
 use Rattle.board.specs.Board.{owner, chain_in}

@@ -10,8 +10,8 @@ use Rattle.std.proofs.Math.Arith.{lt-one}
 use Rattle.std.specs.Int.Count.{ones, ones_step}
 use Rattle.rules.specs.Lists.{count, below}
 use Rattle.sets.specs.Liberties.{bit_at, number_of}
-use Rattle.rules.specs.Laws.Hash.{digit}
-use Rattle.rules.specs.Laws.Places.{count-below-zero, count-below-first}
+use Rattle.rules.proofs.Laws.Hash.{digit}
+use Rattle.rules.proofs.Laws.Places.{count-below-zero, count-below-first}
 
 -- ---- An operation that works digit by digit works bit by bit
 

@@ -10,9 +10,9 @@ use Rattle.std.specs.Int.Count.{ones}
 use Rattle.rules.specs.Sizes.{max_area, liberty_bytes}
 use Rattle.rules.specs.Lists.{count, below}
 use Rattle.sets.specs.Liberties.{liberty_bits, bit_at, has, byte_of, set_of, LibertySet, none, added, removed, united, number}
-use Rattle.rules.specs.Laws.Lists.{length-tabulate, get_d_tabulate}
-use Rattle.rules.specs.Laws.Places.{tabulate-ext}
-use Rattle.rules.specs.Laws.Places.{count-below-add, count-below-ext, count-below-le, count-below-some, count-below-each, count-below-more}
+use Rattle.rules.proofs.Laws.Lists.{length-tabulate, get_d_tabulate}
+use Rattle.rules.proofs.Laws.Places.{tabulate-ext}
+use Rattle.rules.proofs.Laws.Places.{count-below-add, count-below-ext, count-below-le, count-below-some, count-below-each, count-below-more}
 use Rattle.sets.specs.Laws.Bits.{bit_at-none, number_of-lt, bit_at-number_of, number_of-ext, number_of-bit_at, ones-bits, no_bit_zero}
 
 -- a list of zeros has a zero at each place, and beyond

@@ -8,7 +8,7 @@ use Prim.Native.Nat.{ℕ, suc, ◌+◌, ◌-◌, ◌≤◌, ◌<◌}
 use native.Mathlib.Omega.{arith}
 use Rattle.std.proofs.Math.Logic.{⊎_elim}
 use borrow.Author.Tests.{eq-eqb, ne_eqb}
-use Rattle.rules.specs.Laws.Lists.{equal_or_not}
+use Rattle.rules.proofs.Laws.Lists.{equal_or_not}
 use Rattle.std.proofs.Math.ListN.{get_or, take, drop, drop_of_length-le, length-drop}
 use Rattle.std.proofs.Math.Seq.{take-suc, append_snoc}
 use Rattle.spelling.specs.Text.{blank, word, words_from, words}

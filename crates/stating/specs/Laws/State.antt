@@ -9,7 +9,7 @@ use Rattle.rules.specs.Answers.{number, accepts, refuse}
 use Rattle.rules.specs.Colours.{at}
 use Rattle.rules.specs.Points.{area}
 use Rattle.rules.specs.Calls.{filled}
-use Rattle.rules.specs.Laws.Lists.{below_or_not}
+use Rattle.rules.proofs.Laws.Lists.{below_or_not}
 use Rattle.board.specs.Board.{colours_of}
 use Rattle.board.specs.Laws.Board.{area-fits, length-colours}
 use Rattle.listing.specs.declared.list.Listed.{Listed}

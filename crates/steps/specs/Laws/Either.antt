@@ -2,7 +2,7 @@
 use Rattle.std.specs.Prelude.{Bool, true, false, cond, ◌||◌, ◌≡◌, refl, List, [], ◌∷◌, ◌⊎◌, ℕ, ◌+◌, ◌≤◌, ltb}
 use Rattle.std.proofs.Common.{sym, ⊎_elim, zero-add, arith, ltb-true, ltb-false}
 use Rattle.rules.specs.Lists.{count}
-use Rattle.rules.specs.Laws.Lists.{decided}
+use Rattle.rules.proofs.Laws.Lists.{decided}
 
 pub not-both-sum : (a b : Bool) → (a ≡ true → b ≡ false) → cond (a || b) 1 0 ≡ cond a 1 0 + cond b 1 0
 not-both-sum true b other = rw (other refl)

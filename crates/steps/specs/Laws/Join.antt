@@ -15,10 +15,10 @@ use Rattle.rules.specs.Points.{area, neighbours}
 use Rattle.rules.specs.Hash.{hash}
 use Rattle.rules.specs.Game.{Player}
 use Rattle.rules.specs.Reach.{Walk}
-use Rattle.rules.specs.Laws.Lists.{decided, not-both, equal_or_not, or_right, length-below, any-or}
-use Rattle.rules.specs.Laws.Counting.{count_most}
-use Rattle.rules.specs.Laws.Points.{neighbours-sym}
-use Rattle.rules.specs.Laws.Reach.{walk-join, walk-on, walk-reverse, walk-renamed}
+use Rattle.rules.proofs.Laws.Lists.{decided, not-both, equal_or_not, or_right, length-below, any-or}
+use Rattle.rules.proofs.Laws.Counting.{count_most}
+use Rattle.rules.proofs.Laws.Points.{neighbours-sym}
+use Rattle.rules.proofs.Laws.Reach.{walk-join, walk-on, walk-reverse, walk-renamed}
 use Rattle.chains.specs.declared.group.Chain.{Chain}
 use Rattle.chains.specs.Group.{used, free_chain}
 use Rattle.sets.specs.Liberties.{set_of, united as both}

@@ -6,8 +6,8 @@ use Rattle.std.proofs.Math.Path.{ap}
 use Rattle.std.proofs.Math.Decide.{dec_lt}
 use Rattle.std.proofs.lemmas.Bool.{eqb-false, not-true}
 use Rattle.rules.specs.Lists.{Distinct}
-use Rattle.rules.specs.Laws.Lists.{equal_or_not, below_or_not}
-use Rattle.rules.specs.Laws.Distinct.{tabulate-distinct, distinct-tabulate}
+use Rattle.rules.proofs.Laws.Lists.{equal_or_not, below_or_not}
+use Rattle.rules.proofs.Laws.Distinct.{tabulate-distinct, distinct-tabulate}
 use Rattle.chains.specs.declared.group.Chain.{Chain}
 use Rattle.chains.specs.Group.{used}
 use Rattle.chains.specs.Walk.{stepped, walked}

@@ -19,17 +19,17 @@ use Rattle.rules.specs.Reach.{Walk, here}
 use Rattle.rules.specs.Hash.{stone_hash, hash}
 use Rattle.rules.specs.Move.{coloured}
 use Rattle.rules.specs.Game.{Player}
-use Rattle.rules.specs.Laws.Lists.{and_left, and_right, and_both, not-both, equal_or_not, any-yes, any_some, mem_below, get_d_set, get_d_default, get_or-tabulate-zero, same_answer}
-use Rattle.rules.specs.Laws.Counting.{below-distinct, count-equal}
-use Rattle.rules.specs.Laws.Points.{neighbours-sym, neighbours-on, neighbours-not-self}
-use Rattle.rules.specs.Laws.Reach.{walk-agree}
-use Rattle.rules.specs.Laws.Hash.{hash-put}
+use Rattle.rules.proofs.Laws.Lists.{and_left, and_right, and_both, not-both, equal_or_not, any-yes, any_some, mem_below, get_d_set, get_d_default, get_or-tabulate-zero, same_answer}
+use Rattle.rules.proofs.Laws.Counting.{below-distinct, count-equal}
+use Rattle.rules.proofs.Laws.Points.{neighbours-sym, neighbours-on, neighbours-not-self}
+use Rattle.rules.proofs.Laws.Reach.{walk-agree}
+use Rattle.rules.proofs.Laws.Hash.{hash-put}
 use Rattle.chains.specs.declared.group.Chain.{Chain}
 use Rattle.sets.specs.Liberties as sets
 use Rattle.sets.specs.Liberties.{set_of, removed, none}
 use Rattle.chains.specs.Group.{used, free_chain, new_chain}
 use Rattle.chains.specs.Walk.{stepped, walked}
-use Rattle.rules.specs.Laws.Places.{tabulate-ext}
+use Rattle.rules.proofs.Laws.Places.{tabulate-ext}
 use Rattle.sets.specs.Laws.Liberties.{set_of-ext, added-set_of, removed-set_of}
 use Rattle.chains.specs.Laws.Group.{new-used}
 use Rattle.chains.specs.Laws.Walk.{stepped-set}

@@ -21,10 +21,10 @@ use Rattle.rules.specs.Lists.{any, count, below, has, Distinct}
 use Rattle.rules.specs.Points.{area, neighbours}
 use Rattle.rules.specs.Colours.{empty, at}
 use Rattle.rules.specs.Hash.{stone_hash, hash}
-use Rattle.rules.specs.Laws.Lists.{decided, equal_or_not, mem-has, has-mem, not_yes, not-both, or_left, or_right, get_or-tabulate-zero}
-use Rattle.rules.specs.Laws.Counting.{count_same}
-use Rattle.rules.specs.Laws.Hash.{hash-emptied}
-use Rattle.rules.specs.Laws.Reach.{walk-agree}
+use Rattle.rules.proofs.Laws.Lists.{decided, equal_or_not, mem-has, has-mem, not_yes, not-both, or_left, or_right, get_or-tabulate-zero}
+use Rattle.rules.proofs.Laws.Counting.{count_same}
+use Rattle.rules.proofs.Laws.Hash.{hash-emptied}
+use Rattle.rules.proofs.Laws.Reach.{walk-agree}
 use Rattle.chains.specs.declared.group.Chain.{Chain}
 use Rattle.chains.specs.Group.{used, free_chain}
 use Rattle.sets.specs.Liberties.{set_of, added}

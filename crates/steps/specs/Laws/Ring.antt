@@ -13,8 +13,8 @@ use Rattle.std.proofs.Math.ListN.{length}
 use Rattle.rules.specs.Sizes.{max_area, slots}
 use Rattle.rules.specs.Lists.{pick, count, below, has}
 use Rattle.rules.specs.Points.{area}
-use Rattle.rules.specs.Laws.Lists.{decided, equal_or_not, mem_below, mem-pick, has-mem, has-not}
-use Rattle.rules.specs.Laws.Counting.{distinct-fewer, length-pick}
+use Rattle.rules.proofs.Laws.Lists.{decided, equal_or_not, mem_below, mem-pick, has-mem, has-not}
+use Rattle.rules.proofs.Laws.Counting.{distinct-fewer, length-pick}
 use Rattle.chains.specs.Group.{used}
 use Rattle.chains.specs.Walk.{walked}
 use Rattle.chains.specs.Laws.Walk.{length-walked, walked-mem}

@@ -3,9 +3,9 @@ use Rattle.std.specs.Prelude.{◌≡◌, refl, Bool, true, false, not, ◌&&◌,
 use Rattle.std.proofs.Common.{sym, ap, ◌∙◌, ⊎_elim, arith, leb-false}
 use Rattle.rules.specs.Points.{area, index}
 use Rattle.rules.specs.Answers.{number, Accepted, Damaged, OffBoard}
-use Rattle.rules.specs.Laws.Lists.{decided, not-both, or-none-left, or-none-right}
-use Rattle.rules.specs.Laws.Calls.{off-not-on}
-use Rattle.rules.specs.Laws.Points.{index_on}
+use Rattle.rules.proofs.Laws.Lists.{decided, not-both, or-none-left, or-none-right}
+use Rattle.rules.proofs.Laws.Calls.{off-not-on}
+use Rattle.rules.proofs.Laws.Points.{index_on}
 use Rattle.board.specs.declared.goban.Board.{Board}
 use Rattle.board.specs.True.{TrueBoard}
 use Rattle.board.specs.Laws.Judge.{true-or-not}

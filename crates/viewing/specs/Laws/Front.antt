@@ -3,8 +3,8 @@ use Rattle.std.specs.Prelude.{◌≡◌, refl, Bool, true, false, cond, List, []
 use Rattle.std.proofs.Common.{sym, ap, ap₂, ◌∙◌, subst, append-nil, zero-add, add-one, arith, length-append, drop_of_length-le, drop-cons}
 use Rattle.std.proofs.Math.Seq.{set-append_seam, append_snoc}
 use Rattle.rules.specs.Lists.{tabulate, pick, below}
-use Rattle.rules.specs.Laws.Lists.{pick-append}
-use Rattle.rules.specs.Laws.Places.{tabulate-suc, below_next}
+use Rattle.rules.proofs.Laws.Lists.{pick-append}
+use Rattle.rules.proofs.Laws.Places.{tabulate-suc, below_next}
 use Rattle.viewing.specs.Front.{over, Front}
 
 -- ---- The buffer

@@ -2,7 +2,7 @@
 use Rattle.std.specs.Prelude.{◌≡◌, refl, Bool, true, false, ◌||◌, List, [], ◌∷◌, ℕ, zero, suc, ◌<◌, length, get_or, take}
 use Rattle.std.proofs.Common.{ap₂, zero-le, suc-le-suc, not-suc-le-zero, le_of_suc-le-suc}
 use Rattle.rules.specs.Lists.{any}
-use Rattle.rules.specs.Laws.Lists.{or_left, or_right}
+use Rattle.rules.proofs.Laws.Lists.{or_left, or_right}
 
 module _ (f : ℕ → Bool) where
   pub any_found : (l : List ℕ) (n i : ℕ) → i < n → i < length l → f (get_or l i 0) ≡ true → any f (take n l) ≡ true

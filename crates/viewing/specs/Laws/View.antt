@@ -12,16 +12,16 @@ use Rattle.rules.specs.Colours.{empty, at}
 use Rattle.rules.specs.Points.{area}
 use Rattle.rules.specs.Flood.{chain, marked}
 use Rattle.rules.specs.Chain.{leads}
-use Rattle.rules.specs.Laws.Lists.{decided, get_d_default, get_or-tabulate-zero, get_or-tabulate-beyond}
-use Rattle.rules.specs.Laws.Colours.{at-beyond}
+use Rattle.rules.proofs.Laws.Lists.{decided, get_d_default, get_or-tabulate-zero, get_or-tabulate-beyond}
+use Rattle.rules.proofs.Laws.Colours.{at-beyond}
 use Rattle.chains.specs.declared.group.Chain.{Chain}
 use Rattle.chains.specs.Group.{free_chain}
-use Rattle.rules.specs.Laws.Places.{tabulate-ext}
+use Rattle.rules.proofs.Laws.Places.{tabulate-ext}
 use Rattle.board.specs.declared.goban.Board.{Board}
 use Rattle.board.specs.Board.{owner, chain_in, colour_at, colours_of}
 use Rattle.board.specs.True.{TrueBoard}
 use Rattle.board.specs.Laws.Board.{area-fits, length-colours, at-colours}
-use Rattle.rules.specs.Laws.Lists.{same_answer}
+use Rattle.rules.proofs.Laws.Lists.{same_answer}
 use Rattle.board.specs.Laws.Views.{owned-exact, owned-on, chain-owner, leads-origin}
 use Rattle.viewing.specs.View.{lead_in, lead_at, view_of}
 

@@ -2,7 +2,7 @@
 use mathlib.Core.Path.{◌≡◌, ◌∙◌}
 use lib.ListN.{length}
 use borrow.Author.Tests.{not-true, not-false}
-use Rattle.rules.specs.Laws.Lists.{not-both}
+use Rattle.rules.proofs.Laws.Lists.{not-both}
 use Rattle.board.specs.Board.{colours_of}
 use Rattle.legality.specs.Near.{near_of}
 use Rattle.looking.specs.Laws.Sight.{unread, sight-long}

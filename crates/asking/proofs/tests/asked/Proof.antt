@@ -1,7 +1,7 @@
 -- `asked`: the judge, then the spot by what is seen of the board, then the test.
 use mathlib.Core.Path.{◌≡◌, ◌∙◌}
 use borrow.Author.Tests.{not-true, not-false}
-use Rattle.rules.specs.Laws.Lists.{not-both}
+use Rattle.rules.proofs.Laws.Lists.{not-both}
 use Rattle.board.specs.Board.{colours_of}
 use Rattle.looking.specs.Laws.Sight.{unread, sight-long}
 use Rattle.game.specs.View.{TrueState}

@@ -4,7 +4,7 @@ use lib.ListN.{length}
 use borrow.Author.Tests.{not-true, not-false}
 use Rattle.rules.specs.Answers.{number}
 use Rattle.rules.specs.Calls.{list_answer}
-use Rattle.rules.specs.Laws.Lists.{not-both}
+use Rattle.rules.proofs.Laws.Lists.{not-both}
 use Rattle.listing.specs.Laws.Answers.{left-refused, left-filled}
 use Rattle.game.specs.View.{view_of, TrueState, RoomIn}
 use Rattle.game.specs.Judge.{Decides}

@@ -7,7 +7,7 @@ use borrow.Author.Tests.{lt-ltb, le-ltb}
 use Rattle.rules.specs.Sizes.{max_flags}
 use Rattle.rules.specs.Answers.{number, BadFlags}
 use Rattle.rules.specs.Calls.{flags_answer}
-use Rattle.rules.specs.Laws.Answers.{refused-then, passed_then}
+use Rattle.rules.proofs.Laws.Answers.{refused-then, passed_then}
 use Rattle.legals.specs.Legals.{refused}
 use Rattle.legals.proofs.list.refusal.Statement.{statement}
 use Rattle.legals.proofs.list.refusal.Tie as tie

@@ -5,7 +5,7 @@ use lib.ListN.{length}
 use borrow.Author.Tests.{not-true, not-false}
 use Rattle.rules.specs.Sizes.{max_area}
 use Rattle.rules.specs.Answers.{number}
-use Rattle.rules.specs.Laws.Lists.{not-both}
+use Rattle.rules.proofs.Laws.Lists.{not-both}
 use Rattle.placing.specs.Placing.{spots_of}
 use Rattle.game.specs.View.{TrueState}
 use Rattle.game.specs.Judge.{Decides}

@@ -6,7 +6,7 @@ use lib.ListN.{length}
 use borrow.Author.Rules.{rules}
 use Rattle.rules.specs.Answers.{number}
 use Rattle.rules.specs.Records.{record_of, capacity, full}
-use Rattle.rules.specs.Laws.Records.{length-record}
+use Rattle.rules.proofs.Laws.Records.{length-record}
 use Rattle.playing.specs.Turn.{last_answer}
 use Rattle.playing.specs.Laws.Count.{full_by}
 use Rattle.playing.specs.Laws.Stone.{last-free}

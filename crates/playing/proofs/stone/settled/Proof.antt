@@ -3,8 +3,8 @@ use mathlib.Core.Path.{◌≡◌, refl, ap, ◌∙◌}
 use lib.ListN.{length}
 use borrow.Author.Rules.{rules}
 use Rattle.rules.specs.Records.{record_of, capacity}
-use Rattle.rules.specs.Laws.Lists.{not-both}
-use Rattle.rules.specs.Laws.Records.{length-record}
+use Rattle.rules.proofs.Laws.Lists.{not-both}
+use Rattle.rules.proofs.Laws.Records.{length-record}
 use Rattle.board.specs.Board.{colours_of}
 use Rattle.looking.specs.Laws.Sight.{unread, sees-packing, sees-record}
 use Rattle.game.specs.Clock.{game_of}

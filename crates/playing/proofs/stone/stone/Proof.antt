@@ -9,8 +9,8 @@ use borrow.Author.Tests.{not-true, not-false}
 use borrow.Author.Rules.{rules}
 use Rattle.rules.specs.Answers.{number}
 use Rattle.rules.specs.Calls.{stone}
-use Rattle.rules.specs.Laws.Lists.{not-both}
-use Rattle.rules.specs.Laws.Records.{bytes_after-length}
+use Rattle.rules.proofs.Laws.Lists.{not-both}
+use Rattle.rules.proofs.Laws.Records.{bytes_after-length}
 use Rattle.looking.specs.Laws.Sight.{unread}
 use Rattle.game.specs.declared.state.Game.{Game}
 use Rattle.game.specs.declared.clock.Clock.{Clock}

@@ -2,7 +2,7 @@
 use mathlib.Core.Path.{refl, sym}
 use native.Mathlib.Omega.{arith}
 use Rattle.rules.specs.Colours.{at}
-use Rattle.rules.specs.Laws.Colours.{at-beyond}
+use Rattle.rules.proofs.Laws.Colours.{at-beyond}
 use borrow.Author.Rules.{rules}
 use Rattle.points.proofs.stones.colour_at.Goals as goal
 

@@ -1,0 +1,6 @@
+-- What `judged` promises of its first field.
+use borrow.Author.Rules.{rules}
+use Rattle.board.proofs.judge.judge.Goals as goal
+
+pub returns : goal.returns
+returns c = record { sound = c.judged.ensures.sound; complete = c.judged.ensures.complete }

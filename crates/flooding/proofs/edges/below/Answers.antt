@@ -1,0 +1,12 @@
+-- `below` meets its contract: a row below there is where one row further is still on the board.
+use mathlib.Core.Path.{sym}
+use native.Mathlib.Omega.{arith}
+use Rattle.flooding.specs.Laws.Edges.{below-some, below_none}
+use borrow.Author.Rules.{rules}
+use Rattle.flooding.proofs.edges.below.Goals as goal
+
+pub returns-then-next-area : goal.returns-then-next-area
+returns-then-next-area c = let a = c.args in sym (below-some a.height a.width a.point c.requires.0 (omega (arith, c.area.ensures, c.if-next-area.true)))
+
+pub returns : goal.returns
+returns c = let a = c.args in sym (below_none a.height a.width a.point c.requires.0 (omega (arith, c.area.ensures, c.if-next-area.false)))

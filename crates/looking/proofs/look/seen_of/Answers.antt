@@ -1,0 +1,103 @@
+use mathlib.Core.Path.{◌≡◌, sym, ap, ◌∙◌, subst}
+use mathlib.Core.List.{List}
+use mathlib.Core.Logic.{⊎_elim}
+use Prim.Native.Nat.{ℕ, ◌-◌, ◌≤◌, ◌<◌}
+use native.Mathlib.Omega.{arith}
+use borrow.Author.Rules.{rules}
+use Rattle.rules.specs.Sizes.{max_area, slots}
+use Rattle.rules.specs.Lists.{tabulate}
+use Rattle.rules.specs.Colours.{at}
+use Rattle.chains.specs.declared.group.Chain.{Chain}
+use Rattle.board.specs.declared.goban.Board.{Board}
+use Rattle.board.specs.Board.{owner, chain_in, colours_of}
+use Rattle.history.specs.Packing.{on_largest}
+use Rattle.legality.specs.declared.near.Beside.{Beside}
+use Rattle.looking.specs.Seen.{chain_seen, seen_of, Counted}
+use Rattle.looking.specs.Laws.Table.{liberties_at, stones_at, owner-read, chain-read, nothing_read, colour-told, liberties-told, stones-told}
+use Rattle.looking.specs.Laws.Seen.{first_counted}
+use Rattle.looking.proofs.Points.{Upto, none_yet, more, whole}
+use Rattle.looking.proofs.look.seen_of.Invariants.{Seeing}
+use Rattle.looking.proofs.look.seen_of.Goals.{Joined-owner-lt-SLOTS, then-owner-lt-SLOTS, else-owner-lt-SLOTS}
+use Rattle.looking.proofs.look.seen_of.Goals as goal
+
+-- what is seen is what the table says of the point
+shown : (c : Joined-owner-lt-SLOTS)
+    → c.if-owner-lt-SLOTS.seen ≡ chain_seen (chain_in c.args.board (owner c.args.board c.loop-point.point))
+shown c =
+    let b = c.args.board in
+    let is = c.requires in
+    let p = c.loop-point.point in
+    let low : p < max_area = c.loop-point-test.true in
+    elim c.if-owner-lt-SLOTS.branch [
+      | then-owner-lt-SLOTS w ↦ w.seen-is ∙ w.stone_seen-chain.ensures ∙ ap chain_seen (chain-read b is p low _ c.index-owner.ensures w.if-owner-lt-SLOTS.true _)
+      | else-owner-lt-SLOTS w ↦ w.seen-is ∙ c.nothing_seen-seen.ensures ∙ nothing_read b is p low _ c.index-owner.ensures w.if-owner-lt-SLOTS.false
+    ]
+
+pub loop-point-init : goal.loop-point-init
+loop-point-init c =
+    record {
+      within = omega arith;
+      colours = none_yet _;
+      liberties = none_yet _;
+      stones = none_yet _;
+    }
+
+pub stone_seen-chain-requires : goal.stone_seen-chain-requires
+stone_seen-chain-requires c =
+    let b = c.args.board in
+    let is = c.requires in
+    let p = c.loop-point.point in
+    let low : p < max_area = c.loop-point-test.true in
+    let its = c.index-owner.ensures in
+    let below : c.index-owner.result < slots = c.if-owner-lt-SLOTS.true in
+    let done = c.loop-point.invariant.liberties in
+    subst (λ (x : Chain). Counted x c.loop-point.liberties p) (sym (chain-read b is p low _ its below _))
+    (first_counted b is p (λ z. let e = owner-read b is p low _ its ∙ z in omega arith) _ done.long low done.read)
+
+pub bounds-colours-point : goal.bounds-colours-point
+bounds-colours-point c = omega (arith, c.loop-point-test.true)
+
+pub offset_bounds-liberties-point : goal.offset_bounds-liberties-point
+offset_bounds-liberties-point c = omega (arith, c.loop-point-test.true)
+
+pub bounds-liberties-point : goal.bounds-liberties-point
+bounds-liberties-point c = omega (arith, c.loop-point-test.true)
+
+pub offset_bounds-stones-point : goal.offset_bounds-stones-point
+offset_bounds-stones-point c = omega (arith, c.loop-point-test.true)
+
+pub bounds-stones-point : goal.bounds-stones-point
+bounds-stones-point c = omega (arith, c.loop-point-test.true)
+
+pub overflow_add-point : goal.overflow_add-point
+overflow_add-point c = omega (arith, c.loop-point-test.true)
+
+pub loop-point-smaller : goal.loop-point-smaller
+loop-point-smaller c = omega (arith, c.loop-point-test.true)
+
+pub loop-point-preserved : goal.loop-point-preserved
+loop-point-preserved c =
+    let b = c.args.board in
+    let is = c.requires in
+    let p = c.loop-point.point in
+    let h : p < max_area = c.loop-point-test.true in
+    record {
+      within = omega arith;
+      colours = more (at (colours_of b)) _ p _ c.loop-point.invariant.colours h (ap (λ (x : Beside). x.colour) (shown (goal.at.loop-point-preserved c).Joined-owner-lt-SLOTS) ∙ colour-told b is p);
+      liberties = more (liberties_at b) _ p _ c.loop-point.invariant.liberties h (ap (λ (x : Beside). x.liberties) (shown (goal.at.loop-point-preserved c).Joined-owner-lt-SLOTS) ∙ liberties-told b is p);
+      stones = more (stones_at b) _ p _ c.loop-point.invariant.stones h (ap (λ (x : Beside). x.stones) (shown (goal.at.loop-point-preserved c).Joined-owner-lt-SLOTS) ∙ stones-told b is p);
+    }
+
+pub returns : goal.returns
+unfolding seen_of on_largest
+returns c =
+    let b = c.args.board in
+    let inv = c.loop-point.invariant in
+    let all : (f : ℕ → ℕ) (xs : List ℕ) → Upto f xs c.loop-point.point → xs ≡ tabulate f 0 max_area =
+    λ f xs done. whole f xs _ done (λ k beyond low. absurd (omega (arith, c.loop-point-test.false))) in
+    λ i.
+    record {
+      colours = all (at (colours_of b)) _ inv.colours i;
+      liberties = all (liberties_at b) _ inv.liberties i;
+      stones = all (stones_at b) _ inv.stones i;
+    }

@@ -1,0 +1,35 @@
+-- `ring_good` meets its contract: after some links the stones passed are on the ring, and each way out has found one test to fail, or the
+-- last to decide. The measure is what is left of the count.
+use mathlib.Core.Path.{◌≡◌, sym, ap, ap₂, ◌∙◌}
+use mathlib.Core.Bool.{Bool, true, ◌&&◌, ◌||◌}
+use mathlib.Core.List.{List}
+use mathlib.Core.Logic.{◌≢◌}
+use Prim.Native.Nat.{ℕ, ◌+◌, ◌≤◌, ◌<◌, ◌-◌}
+use native.Mathlib.Numerals.{add-one}
+use native.Mathlib.Omega.{arith}
+use lib.Dec.{eqb, ltb}
+use lib.ListN.{get_or}
+use borrow.Author.Count.{below_none, below_more}
+use borrow.Author.Tests.{not-true, not-false, eqb-true, eq-eqb, ne_eqb}
+use Rattle.rules.specs.Sizes.{max_area, slots}
+use Rattle.rules.specs.Lists.{all, below}
+use Rattle.rules.proofs.Laws.Lists.{and_left, get_or-within}
+use Rattle.chains.specs.declared.group.Chain.{Chain}
+use Rattle.chains.specs.Walk.{stepped}
+use Rattle.owning.specs.Owners.{owner_in, on_ring, ring}
+use Rattle.owning.specs.Laws.Lists.{all-below, all-fails-below, and-fails, then-fails}
+use borrow.Author.Rules.{rules}
+use Rattle.owning.proofs.ring.ring_good.Given as goal
+
+-- after some links: where the walk is and was, and that it was on the ring
+pub record Ringing (own : ℕ → ℕ) (next : List ℕ) (s : ℕ) (c : Chain) (count previous point links : ℕ) : Type 0 where
+  pub within : links ≤ count
+  pub at : point ≡ stepped next c.origin links
+  pub before : previous ≡ stepped next c.origin (links - 1)
+  pub on : (k : ℕ) → k < links → on_ring own next s c k ≡ true
+
+abbrev pub invariant-loop-links : goal.invariant-loop-links
+invariant-loop-links l = Ringing (owner_in l.owners) l.next l.slot l.chain l.count l.previous l.point l.links
+
+abbrev pub decreases-loop-links : goal.decreases-loop-links
+decreases-loop-links l = l.count - l.links
