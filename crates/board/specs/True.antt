@@ -2,7 +2,7 @@
 -- none; used slots hold exactly the largest connected one-colour sets, with colour, count, exact liberties, at least one liberty, and
 -- links that go round the chain once from its least point (origin) to last and back; hash as defined.
 use Rattle.std.specs.Prelude.{◌≡◌, Bool, true, ◌&&◌, ◌≢◌, ℕ, ◌+◌, ◌≤◌, ◌<◌, eqb, length, get_or}
-use mathlib.Core.List.{List, Memᴰ}
+use mathlib.Core.List.{Memᴰ}
 use Rattle.rules.specs.Sizes.{max_area, slots}
 use Rattle.rules.specs.Lists.{any, count, below, Distinct}
 use Rattle.rules.specs.Points.{area, neighbours}

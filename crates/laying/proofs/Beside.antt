@@ -10,8 +10,8 @@ use native.Mathlib.Nat.{not-suc-le-zero, le_of_suc-le-suc}
 use native.Mathlib.Numerals.{add-one}
 use native.Mathlib.Omega.{arith}
 use lib.Dec.{eqb}
-use lib.ListN.{length, get_or, take, drop, drop_of_length-le}
-use lib.Seq.{drop-cons, get_or-take, length-take-le}
+use lib.ListN.{length, get_or, drop, drop_of_length-le}
+use lib.Seq.{drop-cons}
 use borrow.Author.Tests.{eqb-true, eqb-false, ne_eqb, not-true}
 use Rattle.rules.specs.Sizes.{max_area, slots}
 use Rattle.rules.specs.Lists.{below}
@@ -20,9 +20,6 @@ use Rattle.rules.specs.Game.{Player}
 use Rattle.rules.proofs.Laws.Lists.{and_left, and_right, get_d_default, length-below}
 use Rattle.rules.proofs.Laws.Counting.{count_most}
 use Rattle.rules.proofs.Laws.Colours.{player-stone}
-use Rattle.rules.proofs.Laws.Points.{neighbours-on}
-use Rattle.points.specs.declared.coord.Around.{Around}
-use Rattle.points.specs.Around.{Holds}
 use Rattle.chains.specs.declared.group.Chain.{Chain}
 use Rattle.chains.specs.Group.{used, free_chain}
 use Rattle.sets.specs.Liberties.{number}

@@ -1,11 +1,11 @@
 -- Laws of Board: on an exact table a point has a colour exactly if a chain owns it, and the colours are those of the points.
-use Rattle.std.specs.Prelude.{◌≡◌, refl, List, ◌≢◌, ℕ, ◌≤◌, ◌<◌, ltb, length}
+use Rattle.std.specs.Prelude.{◌≡◌, ◌≢◌, ℕ, ◌≤◌, ltb, length}
 use Rattle.std.proofs.Math.Path.{sym, ap}
-use Rattle.std.proofs.Common.{◌∙◌, subst, mul-le-mul, arith}
+use Rattle.std.proofs.Common.{◌∙◌, mul-le-mul, arith}
 use Rattle.std.proofs.Math.Logic.{⊎_elim}
 use Rattle.std.proofs.Math.ListN.{get_or-eq_default}
 use borrow.Author.Tests.{ltb-true, ltb-false}
-use Rattle.rules.specs.Sizes.{max_side, max_area, slots}
+use Rattle.rules.specs.Sizes.{max_area, slots}
 use Rattle.rules.specs.Points.{area}
 use Rattle.rules.specs.Colours.{empty, at}
 use Rattle.rules.specs.Game.{Player, TrueSize}

@@ -1,12 +1,12 @@
 -- Laws of a board's chains as the rules see them: where the sets are the largest, owners and colours have the same walks, and a chain
 -- has a liberty exactly if its stones reach empty.
-use Rattle.std.specs.Prelude.{◌≡◌, refl, Bool, true, ◌↔◌, ◌≢◌, eqb}
+use Rattle.std.specs.Prelude.{◌≡◌, refl, true, ◌↔◌, ◌≢◌, eqb}
 use Rattle.std.proofs.Common.{sym, ap, ◌∙◌, subst, arith, eqb-true, eq-eqb}
 use Rattle.std.proofs.Math.Path.{fun_ext}
 use mathlib.Core.List.{List, Memᴰ}
 use Prim.Native.Nat.{ℕ, ◌<◌}
 use Rattle.rules.specs.Sizes.{slots}
-use Rattle.rules.specs.Lists.{any, count, below}
+use Rattle.rules.specs.Lists.{count, below}
 use Rattle.rules.specs.Points.{area, neighbours}
 use Rattle.rules.specs.Colours.{empty, at}
 use Rattle.rules.specs.Reach.{Walk, here, step, Reaches}

@@ -1,13 +1,13 @@
 -- At most 288 chains stand on a true board, so a slot is always free for the next stone: each chain is named by its slot, and has a
 -- stone and a liberty.
-use Rattle.std.specs.Prelude.{◌≡◌, refl, Bool, true, false, ◌≢◌, ℕ, ◌*◌, ◌≤◌, ◌<◌, length}
+use Rattle.std.specs.Prelude.{◌≡◌, Bool, ◌≢◌, ℕ, ◌≤◌}
 use Rattle.std.proofs.Common.{sym, ◌∙◌, arith}
 use Rattle.std.proofs.Math.Path.{ap}
 use Rattle.std.proofs.Math.Bool.{not}
 use mathlib.Core.List.{List, Memᴰ}
 use Rattle.std.proofs.Math.Dec.{eqb}
 use borrow.Author.Tests.{eqb-true, ne_eqb}
-use Rattle.rules.specs.Sizes.{max_area, max_chains, slots}
+use Rattle.rules.specs.Sizes.{max_chains, slots}
 use Rattle.rules.specs.Lists.{count, pick, below}
 use Rattle.rules.specs.Points.{area, neighbours}
 use Rattle.rules.proofs.Laws.Lists.{and_left, and_right, any_some, mem_below, below-mem, length-below, pick-mem, mem-pick, count-some}
@@ -20,7 +20,7 @@ use Rattle.chains.specs.Laws.Group.{first_free-full}
 use Rattle.sets.specs.Laws.Liberties.{number-set_of}
 use Rattle.board.specs.declared.goban.Board.{Board}
 use Rattle.board.specs.Board.{owner, chain_in}
-use Rattle.board.specs.True.{liberty_of, ExactTable, TrueBoard}
+use Rattle.board.specs.True.{liberty_of, TrueBoard}
 use Rattle.board.specs.Laws.Board.{area-fits}
 
 module _ (b : Board) (is : TrueBoard b) where

@@ -1,6 +1,6 @@
 -- Laws of the points that were seen: a store to the word of a point adds that point alone, eight bytes of a liberty set make a word, and sets
 -- whose words are equal are equal.
-use Rattle.std.specs.Prelude.{◌≡◌, refl, Bool, true, false, cond, not, ◌&&◌, ◌||◌, List, ◌↔◌, ◌≢◌, ℕ, zero, suc, ◌+◌, ◌*◌, ◌/◌, ◌%◌, ◌^◌, ◌≤◌, ◌<◌, eqb, ltb, length, get_or, set, replicate}
+use Rattle.std.specs.Prelude.{◌≡◌, refl, Bool, false, cond, not, ◌&&◌, ◌||◌, List, ◌↔◌, ◌≢◌, ℕ, zero, suc, ◌+◌, ◌*◌, ◌/◌, ◌%◌, ◌^◌, ◌≤◌, ◌<◌, eqb, ltb, length, get_or, set, replicate}
 use Rattle.std.proofs.Common.{sym, ap₂, ◌∙◌, ⊎_elim, pow-suc, mul_comm, mul_assoc, zero-add, suc-add, arith, length-set, get_or-set_same, get_or-set_other, below_none, below_more, eq-eqb, ne_eqb, lt-ltb, le-ltb}
 use Rattle.std.proofs.Math.Path.{ap, fun_ext}
 use Rattle.std.proofs.Math.Bool.{or-false}

@@ -1,10 +1,10 @@
 -- Laws of Promise: a new game is the fresh one, of the size asked for or of 1 × 1, by the order of its tests; a call with no history keeps what it promises where the state is damaged, where the rules refuse, and where they accept.
-use Rattle.std.specs.Prelude.{◌≡◌, Bool, true, false, [], ℕ, ◌≤◌, ◌<◌, ltb, leb}
+use Rattle.std.specs.Prelude.{◌≡◌, Bool, true, false, [], ℕ, ◌≤◌, ◌<◌}
 use Rattle.std.proofs.Math.Path.{refl, sym, ap, subst}
 use Rattle.std.proofs.Common.{◌∙◌, arith}
 use Rattle.std.proofs.Math.Bool.{cond}
-use borrow.Author.Tests.{eqb-true, ltb-true, leb-true, lt-ltb, le-ltb}
-use Rattle.rules.specs.Sizes.{max_side, max_flags}
+use borrow.Author.Tests.{eqb-true, lt-ltb, le-ltb}
+use Rattle.rules.specs.Sizes.{max_flags}
 use Rattle.rules.specs.Answers.{Answer, Accepted, BadSize, BadFlags, Damaged, number, accepts, refuse, ◌then◌}
 use Rattle.rules.specs.Game as rules
 use Rattle.rules.specs.Game.{TrueSize}

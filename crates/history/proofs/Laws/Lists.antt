@@ -1,5 +1,5 @@
 -- Laws of lists: one that is overwritten from a place on, element by element, and two that are compared so.
-use Rattle.std.specs.Prelude.{◌≡◌, refl, true, false, List, ◌++◌, ℕ, zero, suc, ◌+◌, ◌<◌, length, get_or, set, take, drop, replicate}
+use Rattle.std.specs.Prelude.{◌≡◌, true, false, List, ◌++◌, ℕ, ◌+◌, ◌<◌, length, get_or, set, take, drop}
 use Rattle.std.proofs.Common.{ap, ◌∙◌, append_assoc, add-one, arith, take_all, ext_get_or}
 use Rattle.std.proofs.Math.Seq.{paste, paste-suc}
 use Rattle.rules.specs.Lists.{same}

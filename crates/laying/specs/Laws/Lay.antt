@@ -2,17 +2,17 @@
 -- that do not reach empty (Clearing), since such a stone has one of its chain beside the new one; the own chain is lifted exactly where
 -- clearing one's own colour would empty it; and an exact table of largest sets over true colours is a true board.
 use Rattle.std.proofs.Math.Path.{◌≡◌, sym, ap, ap₂, fun_ext}
-use Rattle.std.specs.Prelude.{refl, Bool, true, false, not, ◌&&◌, ◌≢◌, ◌⊎◌, ℕ, ◌≤◌, ◌<◌, length}
-use Rattle.std.proofs.Common.{◌∙◌, subst, inr, zero-le, suc-le-suc, arith, ext_get_or}
+use Rattle.std.specs.Prelude.{refl, Bool, true, false, not, ◌&&◌, ◌≢◌, ℕ, ◌≤◌, ◌<◌, length}
+use Rattle.std.proofs.Common.{◌∙◌, subst, zero-le, suc-le-suc, arith, ext_get_or}
 use Rattle.std.proofs.Math.Bool.{cond}
 use mathlib.Core.List.Memᴰ
 use mathlib.Core.List.{List, [], ◌∷◌, Memᴰ}
 use Rattle.std.proofs.Math.Logic.{inl, ⊎_elim}
 use Rattle.std.proofs.Math.Option.{Option, none, some}
 use Rattle.std.proofs.Math.Dec.{eqb}
-use borrow.Author.Tests.{eqb-true, eqb-false, eq-eqb, ne_eqb}
+use borrow.Author.Tests.{eqb-true, eq-eqb, ne_eqb}
 use Rattle.rules.specs.Sizes.{slots}
-use Rattle.rules.specs.Lists.{count, pick, below, has}
+use Rattle.rules.specs.Lists.{count, below, has}
 use Rattle.rules.specs.Points.{area, neighbours}
 use Rattle.rules.specs.Colours.{empty, other, at}
 use Rattle.rules.specs.Reach.{Walk, Reaches, Clearing}
@@ -25,19 +25,19 @@ use Rattle.rules.proofs.Laws.Lists.{and_left, and_right, and_both, decided, not-
 use Rattle.rules.proofs.Laws.Counting.{count_none, count_same, length-pick}
 use Rattle.rules.proofs.Laws.Colours.{player-stone, other-player, other-apart}
 use Rattle.rules.proofs.Laws.Reach.{walk-last, walk-agree}
-use Rattle.rules.proofs.Laws.Flood.{clear-length, clear-clearing, clearing-clear}
+use Rattle.rules.proofs.Laws.Flood.{clear-clearing, clearing-clear}
 use Rattle.rules.proofs.Laws.Move.{put-length, after-length, put-here, enemy-put, captured-beside, own-choked, own-was, own-after, own-stays, played-both, played-true}
 use Rattle.chains.specs.Group.{used}
 use Rattle.board.specs.declared.goban.Board.{Board}
 use Rattle.board.specs.Board.{owner, chain_in, colour_at, colours_of}
 use Rattle.board.specs.True.{ExactTable, TrueBoard}
 use Rattle.board.specs.Laws.Board.{length-colours, at-colours, empty-unowned, stone-owned}
-use Rattle.board.specs.Laws.Chains.{Largest, colours-at, owner-colour, walk-owned, true-colours, colours-true}
+use Rattle.board.specs.Laws.Chains.{Largest, owner-colour, walk-owned, true-colours, colours-true}
 use Rattle.steps.specs.Steps.{put, remove}
 use Rattle.steps.specs.Putting.{Putting}
-use Rattle.laying.specs.Lay.{Joined, join_all, dead, Haul, take_all, Laid, finished, lay}
+use Rattle.laying.specs.Lay.{Joined, join_all, dead, Haul, take_all, finished, lay}
 use Rattle.steps.specs.Laws.Put.{put-exact, colours-put}
-use Rattle.steps.specs.Laws.Remove.{owner-remove, owner-other, colour-remove, exact-remove}
+use Rattle.steps.specs.Laws.Remove.{owner-other, colour-remove, exact-remove}
 use Rattle.laying.specs.Laws.Gather.{Gathered, put-gathered, gathered-largest}
 use Rattle.laying.specs.Laws.Take.{dead-reaches, alive-reaches, Taken, taken, taken-largest, lost-foe, lost-empty, kept-colour, kept-owner}
 

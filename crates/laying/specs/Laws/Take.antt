@@ -1,19 +1,17 @@
 -- Taking: the enemy chains without liberty beside the new stone are lifted, one after the other. The invariant: what is gone is a list of
 -- slots, all dead before the first was lifted; a neighbour is still to come, or is gone if its chain was dead. A chain gains no liberty by
 -- the lifting of another of its colour, since the two do not touch, so being dead does not change on the way.
-use Rattle.std.specs.Prelude.{◌≡◌, refl, Bool, true, false, not, ◌&&◌, ◌||◌, ◌≢◌, ◌⊎◌, ℕ, ◌+◌, ◌<◌, eqb}
+use Rattle.std.specs.Prelude.{◌≡◌, refl, Bool, true, false, ◌&&◌, ◌||◌, ◌≢◌, ◌⊎◌, ℕ, ◌+◌, ◌<◌, eqb}
 use Rattle.std.proofs.Math.Path.{sym, ap₂}
 use Rattle.std.proofs.Common.{ap, ◌∙◌, subst}
 use Rattle.std.proofs.Math.Bool.{cond}
 use mathlib.Core.List.Memᴰ
-use mathlib.Core.List.Memᴰ.{head}
-use mathlib.Core.List.Memᴰ.{tail}
 use mathlib.Core.List.{List, [], ◌∷◌, Memᴰ}
 use Rattle.std.proofs.Math.Logic.{inl, inr, ⊎_elim}
 use native.Mathlib.Omega.{arith}
 use borrow.Author.Tests.{eqb-true, eqb-false, eq-eqb, ne_eqb}
 use Rattle.rules.specs.Sizes.{slots}
-use Rattle.rules.specs.Lists.{any, count, below, has}
+use Rattle.rules.specs.Lists.{count, below, has}
 use Rattle.rules.specs.Points.{area, neighbours}
 use Rattle.rules.specs.Colours.{empty}
 use Rattle.rules.specs.Reach.{Walk, Reaches}
@@ -25,7 +23,7 @@ use Rattle.sets.specs.Liberties.{number}
 use Rattle.board.specs.declared.goban.Board.{Board}
 use Rattle.board.specs.Board.{owner, chain_in, colour_at}
 use Rattle.board.specs.True.{ExactTable}
-use Rattle.board.specs.Laws.Board.{stone-owned, empty-unowned, unowned-empty}
+use Rattle.board.specs.Laws.Board.{stone-owned, unowned-empty}
 use Rattle.board.specs.Laws.Chains.{Largest, owner-colour, walk-owned, breath-reaches}
 use Rattle.steps.specs.Steps.{remove}
 use Rattle.laying.specs.Lay.{dead, Haul, lifted, take_all}

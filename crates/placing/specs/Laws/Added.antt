@@ -4,7 +4,7 @@ use Rattle.std.specs.Prelude.{◌≡◌, Bool, true, false, not, ◌&&◌, ◌�
 use Rattle.std.proofs.Math.Path.{refl}
 use Rattle.std.proofs.Common.{sym, ◌∙◌, ⊎_elim, eqb-true, eq-eqb}
 use Rattle.std.proofs.lemmas.Bool.{eqb-false, not-true, not-false}
-use Rattle.rules.specs.Colours.{empty, at}
+use Rattle.rules.specs.Colours.{empty}
 use Rattle.rules.specs.Flags.{forbids}
 use Rattle.rules.specs.Move.{coloured}
 use Rattle.rules.specs.Game.{Player}

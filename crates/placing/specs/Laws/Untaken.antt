@@ -1,6 +1,6 @@
 -- A stone that takes nothing and loses nothing leaves the colours with itself added; where it takes or loses something, a stone of the
 -- colours with itself added does not reach empty. Stones are laid with no flag set, so one's own colour is cleared too.
-use Rattle.std.specs.Prelude.{◌≡◌, Bool, ◌&&◌, List, ◌≢◌, ◌⊎◌, ℕ, ◌<◌, eqb}
+use Rattle.std.specs.Prelude.{◌≡◌, Bool, ◌&&◌, List, ◌≢◌, ℕ, ◌<◌, eqb}
 use Rattle.std.proofs.Math.Path.{refl, sym}
 use Rattle.std.proofs.Common.{ap, ◌∙◌, subst, arith, eqb-true, eq-eqb}
 use Rattle.std.proofs.Math.Logic.{⊎_elim}

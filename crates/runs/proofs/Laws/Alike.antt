@@ -1,5 +1,5 @@
 -- Laws of likeness: it is an equivalence, and no call tells alike desks apart, so each call has one answer.
-use Rattle.std.specs.Prelude.{◌≡◌, refl, true, false, List, [], ◌⊎◌, ℕ, ◌≤◌, ◌/◌, length}
+use Rattle.std.specs.Prelude.{◌≡◌, refl, false, List, [], ℕ, ◌≤◌, ◌/◌, length}
 use Rattle.std.proofs.Math.Path.{sym}
 use Rattle.std.proofs.Common.{ap, ◌∙◌, subst, true≢false, ⊎_elim}
 use Rattle.rules.specs.Sizes.{record_bytes}

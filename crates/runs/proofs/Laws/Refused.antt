@@ -1,5 +1,5 @@
 -- Laws of refused calls: the very same state and bytes, whatever they were; a refused new game is an empty 1 × 1 one.
-use Rattle.std.specs.Prelude.{◌≡◌, Bool, true, false, not, ◌≢◌, ℕ, eqb}
+use Rattle.std.specs.Prelude.{◌≡◌, Bool, true, not, ◌≢◌, ℕ, eqb}
 use Rattle.std.proofs.Common.{sym, ◌∙◌, true≢false, eqb-true, ne_eqb}
 use Rattle.std.proofs.Math.Path.{ap}
 use Rattle.std.proofs.Math.Bool.{cond}

@@ -16,7 +16,6 @@ use Rattle.rules.specs.Game.{fresh_game, stones}
 use Rattle.rules.specs.Calls as calls
 use Rattle.rules.specs.Calls.{new_answer, Entry}
 use Rattle.board.specs.Board.{colours_of}
-use Rattle.game.specs.declared.state.Game.{Game}
 use Rattle.game.specs.View.{view_of, RoomIn}
 use Rattle.replaying.specs.Laws.Entry.{cond_same}
 use Rattle.runs.specs.Runs.{Call, Reply, Event, Desk, Sound, Step, Fresh, Run, start, after, stone, replay, turn_over, turn_after, put_after, turn_in, put_in}

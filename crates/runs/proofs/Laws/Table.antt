@@ -1,5 +1,5 @@
 -- Laws of the chain table: a true board's table is what a reader asks of it.
-use Rattle.std.specs.Prelude.{◌≡◌, refl, true, false, not, ℕ, ◌<◌}
+use Rattle.std.specs.Prelude.{◌≡◌, refl, false, not, ℕ, ◌<◌}
 use Rattle.std.proofs.Common.{sym, arith}
 use Rattle.std.proofs.lemmas.Bool.{not-true}
 use Rattle.rules.specs.Sizes.{slots}

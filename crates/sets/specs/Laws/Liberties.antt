@@ -1,6 +1,6 @@
 -- A liberty set is known by its points: the set of a test has what the test says, and two sets with the same points are equal. So
 -- whatever has the points that an operation is to have is what the operation gives.
-use Rattle.std.specs.Prelude.{Bool, true, false, not, ◌&&◌, ◌||◌, ◌≡◌, refl, List, ◌≢◌, ℕ, ◌+◌, ◌*◌, ◌/◌, ◌%◌, ◌-◌, ◌≤◌, ◌<◌, eqb, ltb, length, get_or, replicate}
+use Rattle.std.specs.Prelude.{Bool, true, false, not, ◌&&◌, ◌||◌, ◌≡◌, List, ◌≢◌, ℕ, ◌+◌, ◌*◌, ◌/◌, ◌%◌, ◌-◌, ◌≤◌, ◌<◌, eqb, ltb, length, get_or, replicate}
 use Rattle.std.proofs.Math.Bool.{or_comm, or_assoc, or_self}
 use Rattle.std.proofs.Common.{sym, ap, ap₂, ◌∙◌, zero-add, arith, ext_get_or, pow_pos}
 use Rattle.std.proofs.Math.Decide.{dec_lt, ℕ_discrete}

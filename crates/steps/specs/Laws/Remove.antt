@@ -17,7 +17,7 @@ use Rattle.std.proofs.Math.ListN.{length, length-set, get_or-eq_default}
 use Rattle.std.proofs.Math.Seq.{get_or-set_same, get_or-set_other, ext_get_or}
 use borrow.Author.Tests.{eqb-true, eq-eqb, ne_eqb, lt-ltb, ltb-true, ltb-false}
 use Rattle.rules.specs.Sizes.{max_area, slots}
-use Rattle.rules.specs.Lists.{any, count, below, has, Distinct}
+use Rattle.rules.specs.Lists.{any, below, has, Distinct}
 use Rattle.rules.specs.Points.{area, neighbours}
 use Rattle.rules.specs.Colours.{empty, at}
 use Rattle.rules.specs.Hash.{stone_hash, hash}

@@ -3,7 +3,6 @@ use mathlib.Core.Path.{refl, sym, subst}
 use lib.Seq.{length-take-le}
 use Rattle.telling.specs.Told.{Unlent}
 use Rattle.acting.specs.Acts.{Ready}
-use borrow.Author.Rules.{rules}
 use Rattle.acting.proofs.act.act.Goals as goal
 
 pub do_echo-requires : goal.do_echo-requires

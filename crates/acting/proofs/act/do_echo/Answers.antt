@@ -9,7 +9,6 @@ use Rattle.lines.specs.Command.{max_line}
 use Rattle.reading.specs.Laws.Line.{text-within}
 use Rattle.writing.specs.Laws.Put.{put_same}
 use Rattle.acting.specs.Laws.Says.{said-says}
-use borrow.Author.Rules.{rules}
 use Rattle.acting.proofs.act.do_echo.Goals.{After-text_length-end}
 use Rattle.acting.proofs.act.do_echo.Goals as goal
 

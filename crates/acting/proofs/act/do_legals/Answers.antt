@@ -12,7 +12,6 @@ use Rattle.writing.specs.Laws.Put.{put_then}
 use Rattle.telling.specs.Reply.{TrueDesk}
 use Rattle.telling.specs.Laws.Told.{told-stays}
 use Rattle.acting.specs.Laws.Lists.{listed-few, refused-text, damaged-text, accepted-true, accepted-text}
-use borrow.Author.Rules.{rules}
 use Rattle.acting.proofs.act.do_legals.Goals.{After-legals_by-listed}
 use Rattle.acting.proofs.act.do_legals.Goals as goal
 

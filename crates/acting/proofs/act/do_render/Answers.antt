@@ -9,7 +9,6 @@ use Rattle.writing.specs.Laws.Figures.{length-hex}
 use Rattle.telling.specs.Told.{Unlent}
 use Rattle.telling.specs.Laws.Told.{told-stays}
 use Rattle.acting.specs.Laws.Draws.{max_picture, drawn-few, drawn-refused, drawn-damaged, drawn-true, drawn-text}
-use borrow.Author.Rules.{rules}
 use Rattle.acting.proofs.act.do_render.Goals.{After-pretty_string-drawn}
 use Rattle.acting.proofs.act.do_render.Goals as goal
 

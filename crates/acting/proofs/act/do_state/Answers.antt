@@ -8,7 +8,6 @@ use Rattle.checking.specs.Laws.State.{state-or-not}
 use Rattle.writing.specs.Figures.{decimal}
 use Rattle.stating.specs.State.{state}
 use Rattle.telling.specs.Told.{Unlent}
-use borrow.Author.Rules.{rules}
 use Rattle.acting.proofs.act.do_state.Goals as goal
 
 pub returns : goal.returns

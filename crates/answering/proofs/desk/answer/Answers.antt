@@ -12,7 +12,6 @@ use Rattle.writing.specs.Laws.Put.{put_then}
 use Rattle.telling.specs.Reply.{Reply}
 use Rattle.acting.specs.Acts.{Acts, Ready}
 use Rattle.answering.specs.Laws.Does.{ready-told, does-told}
-use borrow.Author.Rules.{rules}
 use Rattle.answering.proofs.desk.answer.Goals.{After-read_line-read}
 use Rattle.answering.proofs.desk.answer.Goals as goal
 

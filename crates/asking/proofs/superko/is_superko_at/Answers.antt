@@ -1,7 +1,6 @@
 -- `is_superko_at`: the judge, then the spot by what is seen of the board, then the test, by the records where they decide.
 use mathlib.Core.Path.{◌≡◌, ◌∙◌}
 use lib.ListN.{length}
-use borrow.Author.Tests.{not-true, not-false}
 use Rattle.rules.proofs.Laws.Lists.{not-both}
 use Rattle.board.specs.Board.{colours_of}
 use Rattle.legality.specs.Near.{near_of}
@@ -23,7 +22,6 @@ use Rattle.asking.specs.Laws.Tests.{
   superko-again,
   superko-repeating,
 }
-use borrow.Author.Rules.{rules}
 use Rattle.asking.proofs.superko.is_superko_at.Goals.{After-numbers_fit_with, After-spot_of-spot, After-superko_told-told, Else-not-numbers_fit_with}
 use Rattle.asking.proofs.superko.is_superko_at.Goals as goal
 

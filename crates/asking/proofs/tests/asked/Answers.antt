@@ -1,6 +1,5 @@
 -- `asked`: the judge, then the spot by what is seen of the board, then the test.
 use mathlib.Core.Path.{◌≡◌, ◌∙◌}
-use borrow.Author.Tests.{not-true, not-false}
 use Rattle.rules.proofs.Laws.Lists.{not-both}
 use Rattle.board.specs.Board.{colours_of}
 use Rattle.looking.specs.Laws.Sight.{unread, sight-long}
@@ -10,7 +9,6 @@ use Rattle.game.specs.Laws.Judge.{decides-state}
 use Rattle.checking.specs.Spot.{spot_of}
 use Rattle.asking.specs.Tests.{tested_at}
 use Rattle.asking.specs.Laws.Tests.{tested-damaged, tested-off, tested-stone, tested-empty, spot-seen, near-tested}
-use borrow.Author.Rules.{rules}
 use Rattle.asking.proofs.tests.asked.Goals.{After-numbers_fit, After-spot_of-spot, Else-not-numbers_fit}
 use Rattle.asking.proofs.tests.asked.Goals as goal
 

@@ -5,7 +5,6 @@ use Rattle.rules.specs.Lists.{any}
 use Rattle.legality.specs.Near.{besides, catches_more}
 use Rattle.asking.specs.declared.tests.Test.{Test}
 use Rattle.asking.specs.Tests.{tested_near}
-use borrow.Author.Rules.{rules}
 use Rattle.asking.proofs.tests.holds.Goals.{Start}
 use Rattle.asking.proofs.tests.holds.Goals as goal
 

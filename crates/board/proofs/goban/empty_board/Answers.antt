@@ -1,5 +1,4 @@
 -- `empty_board` meets its contract: the fields are the definition's, the chains by what `free_table` ensures.
-use borrow.Author.Rules.{rules}
 use lib.ListN.{replicate}
 use Rattle.rules.specs.Sizes.{max_area, slots}
 use Rattle.board.specs.Board.{new_board}

@@ -1,5 +1,4 @@
 -- What `judged` promises of its first field.
-use borrow.Author.Rules.{rules}
 use Rattle.board.proofs.judge.judge.Goals as goal
 
 pub returns : goal.returns

@@ -2,11 +2,11 @@ use mathlib.Core.Path.{◌≡◌, refl, sym, ap, ◌∙◌}
 use mathlib.Core.Bool.{true, false, cond}
 use mathlib.Core.List.{List, []}
 use mathlib.Core.Logic.{inl, inr, ⊎_elim}
-use Prim.Native.Nat.{ℕ, ◌+◌, ◌-◌, ◌*◌, ◌^◌, ◌≤◌, ◌<◌}
+use Prim.Native.Nat.{ℕ, ◌+◌, ◌^◌, ◌≤◌, ◌<◌}
 use native.Mathlib.Omega.{arith}
 use lib.Dec.{eqb}
-use lib.ListN.{get_or, length-map}
-use borrow.Author.Tests.{not-true, not-false, eq-eqb, ne_eqb}
+use lib.ListN.{get_or}
+use borrow.Author.Tests.{eq-eqb, ne_eqb}
 use Rattle.rules.specs.Sizes.{max_area, slots}
 use Rattle.rules.specs.Lists.{all, below}
 use Rattle.rules.specs.Points.{area}
@@ -15,7 +15,6 @@ use Rattle.rules.specs.Colours.{black, white}
 use Rattle.rules.specs.Game.{Player, stones}
 use Rattle.rules.proofs.Laws.Lists.{decided, get_d_default}
 use Rattle.chains.specs.declared.group.Chain.{Chain}
-use Rattle.chains.specs.contracts.group.Chain as chain
 use Rattle.chains.specs.Group.{free_chain}
 use Rattle.board.specs.declared.goban.Board.{Board}
 use Rattle.board.specs.declared.judge.Verdict.{Verdict}
@@ -26,7 +25,7 @@ use Rattle.flooding.specs.Flood.{hash_of}
 use Rattle.board.specs.Judge.{slot_good, noted, judged}
 use Rattle.board.specs.Laws.Judge.{judged-true}
 use Rattle.board.specs.Laws.Stones.{stones_below, stones_below-none, stones_below-step, stones_below-all}
-use Rattle.board.specs.Laws.Verdict.{side-some, sides-fit, sides-some, sides-wide, Judging, judging-begin, judging-chain, judging-lent, judging-free, judging-used, notes-all}
+use Rattle.board.specs.Laws.Verdict.{side-some, sides-fit, sides-some, sides-wide, judging-begin, judging-chain, judging-lent, judging-free, judging-used, notes-all}
 use Rattle.board.specs.Laws.Verdict.{seen_good, rows_good, columns_good, no-height, no-width, not-placed, bad-slot, not_seen, not-rows, not-columns, hash-decides}
 use borrow.Author.Rules.{rules}
 use Rattle.board.proofs.judge.judged.Invariants.{Passing, Counting}
@@ -160,20 +159,20 @@ loop-slot-preserved c =
     let low = c.loop-slot-test.true in
     let (judging, blacks, whites) = c.loop-slot.invariant in
     elim c.if-board-slot-ne0.branch [
-      then-board-slot-ne0+else-not-chain_good w ↦ (
-    let good = w.if-not-chain_good.false in
-    passing-same w.notes-is w.queue-is w.hash-is w.black-is w.white-is (
-      judging-used c.args.board (shape (goal.at.loop-slot-preserved c).Start) (on (goal.at.loop-slot-preserved c).Else-not-all_placed) judging low (chain-at (goal.at.loop-slot-preserved c).In-loop-slot) w.if-board-slot-ne0.true (sym w.chain_good.ensures.judged ∙ good)
-          (w.chain_good.ensures.passed good),
-      one_more _ blacks low w.stones_in-black.ensures.counted w.stones_in-black.ensures.few,
-      one_more _ whites low w.stones_in-white.ensures.counted w.stones_in-white.ensures.few,
-    ))
-    | else-board-slot-ne0 w ↦
-    passing-same w.notes-is w.queue-is w.hash-is w.black-is w.white-is (
-      judging-free c.args.board (shape (goal.at.loop-slot-preserved c).Start) (on (goal.at.loop-slot-preserved c).Else-not-all_placed) judging low (chain-at (goal.at.loop-slot-preserved c).In-loop-slot) w.if-board-slot-ne0.false,
-      no_more _ blacks low w.if-board-slot-ne0.false,
-      no_more _ whites low w.if-board-slot-ne0.false,
-    )
+      | then-board-slot-ne0+else-not-chain_good w ↦ (
+          let good = w.if-not-chain_good.false in
+          passing-same w.notes-is w.queue-is w.hash-is w.black-is w.white-is (
+            judging-used c.args.board (shape (goal.at.loop-slot-preserved c).Start) (on (goal.at.loop-slot-preserved c).Else-not-all_placed) judging low (chain-at (goal.at.loop-slot-preserved c).In-loop-slot) w.if-board-slot-ne0.true (sym w.chain_good.ensures.judged ∙ good)
+                (w.chain_good.ensures.passed good),
+            one_more _ blacks low w.stones_in-black.ensures.counted w.stones_in-black.ensures.few,
+            one_more _ whites low w.stones_in-white.ensures.counted w.stones_in-white.ensures.few,
+          ))
+      | else-board-slot-ne0 w ↦
+          passing-same w.notes-is w.queue-is w.hash-is w.black-is w.white-is (
+            judging-free c.args.board (shape (goal.at.loop-slot-preserved c).Start) (on (goal.at.loop-slot-preserved c).Else-not-all_placed) judging low (chain-at (goal.at.loop-slot-preserved c).In-loop-slot) w.if-board-slot-ne0.false,
+            no_more _ blacks low w.if-board-slot-ne0.false,
+            no_more _ whites low w.if-board-slot-ne0.false,
+          )
     ]
 
 pub all_found-requires : goal.all_found-requires

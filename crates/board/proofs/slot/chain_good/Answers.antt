@@ -5,7 +5,7 @@ use mathlib.Core.Bool.{true, ◌&&◌}
 use Prim.Native.Nat.{◌<◌}
 use native.Mathlib.Omega.{arith}
 use lib.Dec.{eqb}
-use borrow.Author.Tests.{not-true, not-false, eq-eqb, ne_eqb}
+use borrow.Author.Tests.{eq-eqb, ne_eqb}
 use Rattle.rules.proofs.Laws.Lists.{not-both}
 use Rattle.rules.proofs.Laws.Colours.{player-stone}
 use Rattle.owning.specs.Owners.{owner_in, ring}
@@ -13,7 +13,6 @@ use Rattle.board.specs.Judge.{player, counted, liberties_good, chain_good}
 use Rattle.owning.specs.Laws.Lists.{and-fails, then-fails}
 use Rattle.board.specs.Laws.Tests.{player-says}
 use Rattle.board.specs.Laws.Slot.{lent-ready, origin_on, chain-passed, chain-counted, chain-seen, chain-liberties}
-use borrow.Author.Rules.{rules}
 use Rattle.board.proofs.slot.chain_good.Goals.{After-owner_at, Else-owner_at-slot, Else-stones-index}
 use Rattle.board.proofs.slot.chain_good.Goals as goal
 
@@ -42,19 +41,25 @@ returns-then-not-is_player c = record { judged = sym (and-fails _ (sym c.is_play
 pub returns-then-owner_at-slot : goal.returns-then-owner_at-slot
 unfolding chain_good
 returns-then-owner_at-slot c =
-    let a = c.args in record { judged = sym
+    let a = c.args in record {
+      judged = sym
           (then-fails (player a.chain.colour)
-          (and-fails _ (ne_eqb _ _ (λ e. c.if-owner_at-slot.true (c.owner_at.ensures ∙ ap (owner_in a.notes.now) c.index-origin.ensures ∙ e))))); passed = λ t. absurd (not-both t refl) }
+          (and-fails _ (ne_eqb _ _ (λ e. c.if-owner_at-slot.true (c.owner_at.ensures ∙ ap (owner_in a.notes.now) c.index-origin.ensures ∙ e)))));
+      passed = λ t. absurd (not-both t refl);
+    }
 
 pub returns-then-not-ring_good : goal.returns-then-not-ring_good
 unfolding chain_good
 returns-then-not-ring_good c =
-    let a = c.args in record { judged = sym
+    let a = c.args in record {
+      judged = sym
           (then-fails (player a.chain.colour)
           (then-fails (eqb (owner_in a.notes.now a.chain.origin) a.slot)
           (then-fails (counted a.height a.width (owner_in a.notes.now) a.next.now a.slot a.chain)
           (and-fails (liberties_good a.height a.width (owner_in a.notes.now) a.next.now a.slot a.chain)
-          (sym c.ring_good.ensures ∙ c.if-not-ring_good.true))))); passed = λ t. absurd (not-both t refl) }
+          (sym c.ring_good.ensures ∙ c.if-not-ring_good.true)))));
+      passed = λ t. absurd (not-both t refl);
+    }
 
 pub flood-stones-requires : goal.flood-stones-requires
 flood-stones-requires c =
@@ -64,12 +69,15 @@ flood-stones-requires c =
 pub returns-then-stones-index : goal.returns-then-stones-index
 unfolding chain_good
 returns-then-stones-index c =
-    let a = c.args in record { judged = sym
+    let a = c.args in record {
+      judged = sym
           (then-fails (player a.chain.colour)
           (then-fails (eqb (owner_in a.notes.now a.chain.origin) a.slot)
           (and-fails (ring (owner_in a.notes.now) a.next.now a.slot a.chain && liberties_good a.height a.width (owner_in a.notes.now) a.next.now a.slot a.chain)
           (chain-counted c.requires a.chain c.index-origin.ensures c.flood-stones.ensures
-          ∙ ne_eqb _ _ (λ e. c.if-stones-index.true (e ∙ sym c.index.ensures)))))); passed = λ t. absurd (not-both t refl) }
+          ∙ ne_eqb _ _ (λ e. c.if-stones-index.true (e ∙ sym c.index.ensures))))));
+      passed = λ t. absurd (not-both t refl);
+    }
 
 counted-good : (c : Else-stones-index)
     → let a = c.args in
@@ -84,6 +92,9 @@ liberties_good-requires c =
 pub returns : goal.returns
 unfolding chain_good
 returns c =
-    let a = c.args in record { judged = c.liberties_good.ensures
+    let a = c.args in record {
+      judged = c.liberties_good.ensures
           ∙ sym (chain-liberties c.requires a.chain c.index-origin.ensures c.flood-stones.ensures)
-          ∙ sym (rw (player-good (goal.at.returns c).After-owner_at, origin-good (goal.at.returns c).Else-owner_at-slot, counted-good (goal.at.returns c).Else-stones-index, sym c.ring_good.ensures ∙ c.if-not-ring_good.false)); passed = λ t. chain-passed c.requires a.chain c.index-origin.ensures c.flood-stones.ensures }
+          ∙ sym (rw (player-good (goal.at.returns c).After-owner_at, origin-good (goal.at.returns c).Else-owner_at-slot, counted-good (goal.at.returns c).Else-stones-index, sym c.ring_good.ensures ∙ c.if-not-ring_good.false));
+      passed = λ t. chain-passed c.requires a.chain c.index-origin.ensures c.flood-stones.ensures;
+    }

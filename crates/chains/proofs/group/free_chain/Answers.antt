@@ -3,7 +3,6 @@ use mathlib.Core.Path.{ap}
 use mathlib.Core.List.{List}
 use Prim.Native.Nat.{ℕ}
 use Rattle.chains.specs.Group.{free_chain}
-use borrow.Author.Rules.{rules}
 use Rattle.chains.proofs.group.free_chain.Goals as goal
 
 pub returns : goal.returns

@@ -2,7 +2,6 @@
 use mathlib.Core.Path.{ap}
 use lib.ListN.{replicate}
 use Rattle.rules.specs.Sizes.{slots}
-use borrow.Author.Rules.{rules}
 use Rattle.chains.proofs.group.free_table.Goals as goal
 
 pub returns : goal.returns

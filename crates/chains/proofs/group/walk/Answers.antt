@@ -1,13 +1,11 @@
 use mathlib.Core.Path.{◌≡◌, refl, sym, ap, ap₂, ◌∙◌}
 use mathlib.Core.List.{List, ◌++◌}
-use mathlib.Core.Logic.{⊎_elim}
-use Prim.Native.Nat.{ℕ, suc, ◌+◌, ◌≤◌, ◌<◌, ◌-◌, min}
+use Prim.Native.Nat.{ℕ, suc, ◌+◌, ◌≤◌, ◌<◌, min}
 use native.Mathlib.Omega.{arith}
 use native.Mathlib.Numerals.{add-one}
 use lib.ListN.{length, get_or, drop, set}
 use lib.Seq.{drop-cons, set_at, append_snoc}
 use borrow.Author.Count.{below_none, below_more}
-use borrow.Author.Rules.{rules}
 use Rattle.rules.specs.Sizes.{max_area}
 use Rattle.chains.specs.Walk.{stepped, walked, walk_length}
 use Rattle.chains.specs.Laws.Walk.{on_board-is, walked-suc, length-walked}
@@ -33,7 +31,6 @@ turn next origin count out₀ limit out point n w l long on link e = record {
   here = rw add-one (e ∙ ap (λ (p : ℕ). get_or next p 0) w.here);
   written = ap₂ (λ (d : List ℕ) (p : ℕ). set d n p) w.written w.here ∙ more next origin n out₀ (omega (arith, w.most));
   points = below_more (λ k. stepped next origin k < max_area) n w.points (omega (arith, w.here));
-
 }
 
 -- where the walk ends, its length is right
@@ -51,7 +48,6 @@ loop-n-init c = record {
   here = refl;
   written = refl;
   points = below_none (λ k. stepped c.args.next.now c.args.origin k < max_area);
-
 }
 
 pub returns-then-point-ge-MAX_AREA : goal.returns-then-point-ge-MAX_AREA

@@ -1,18 +1,11 @@
 -- `chains::group::walk`: after n turns the first n points are written, all of them points of the board, and `point` is the next. The
 -- measure is what is left of the limit.
-use mathlib.Core.Path.{◌≡◌, refl, sym, ap, ap₂, ◌∙◌}
+use mathlib.Core.Path.{◌≡◌}
 use mathlib.Core.List.{List, ◌++◌}
-use mathlib.Core.Logic.{⊎_elim}
-use Prim.Native.Nat.{ℕ, suc, ◌+◌, ◌≤◌, ◌<◌, ◌-◌, min}
-use native.Mathlib.Omega.{arith}
-use native.Mathlib.Numerals.{add-one}
-use lib.ListN.{length, get_or, drop, set}
-use lib.Seq.{drop-cons, set_at, append_snoc}
-use borrow.Author.Count.{below_none, below_more}
-use borrow.Author.Rules.{rules}
+use Prim.Native.Nat.{ℕ, ◌≤◌, ◌<◌, ◌-◌, min}
+use lib.ListN.{drop}
 use Rattle.rules.specs.Sizes.{max_area}
-use Rattle.chains.specs.Walk.{stepped, walked, walk_length}
-use Rattle.chains.specs.Laws.Walk.{on_board-is, walked-suc, length-walked}
+use Rattle.chains.specs.Walk.{stepped, walked}
 use Rattle.chains.proofs.group.walk.Given as goal
 
 pub record Walking (next : List ℕ) (origin count : ℕ) (out₀ : List ℕ) (limit : ℕ) (out : List ℕ) (point n : ℕ) : Type 0 where

@@ -1,7 +1,5 @@
 -- `check_point`: the judge, then the point by the game's own flags, which are in range where the state is true.
 use mathlib.Core.Path.{◌∙◌}
-use borrow.Author.Rules.{rules}
-use borrow.Author.Tests.{not-true, not-false}
 use Rattle.rules.specs.Answers.{number}
 use Rattle.rules.proofs.Laws.Lists.{not-both}
 use Rattle.game.specs.View.{view_of, TrueState, RoomIn}

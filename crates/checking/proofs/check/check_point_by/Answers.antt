@@ -1,8 +1,6 @@
 -- `check_point_by`: the judge, the flags, the point.
 use mathlib.Core.Path.{◌∙◌}
 use native.Mathlib.Omega.{arith}
-use borrow.Author.Rules.{rules}
-use borrow.Author.Tests.{not-true, not-false}
 use Rattle.rules.specs.Answers.{number}
 use Rattle.rules.proofs.Laws.Lists.{not-both}
 use Rattle.game.specs.View.{view_of, TrueState, RoomIn}

@@ -1,7 +1,6 @@
 -- `is_ko_point`: no point's number is that of no point.
 use mathlib.Core.Path.{ap}
 use lib.Dec.{eqb}
-use borrow.Author.Rules.{rules}
 use borrow.Author.Tests.{eq-eqb, ne_eqb}
 use Rattle.checking.specs.Told.{at_ko}
 use Rattle.checking.proofs.point.is_ko_point.Goals as goal

@@ -2,7 +2,6 @@
 use mathlib.Core.Path.{refl, sym, ap, ◌∙◌, subst}
 use Prim.Native.Nat.{ℕ}
 use lib.ListN.{length}
-use borrow.Author.Rules.{rules}
 use Rattle.rules.specs.Records.{recorded}
 use Rattle.rules.specs.Points.{index}
 use Rattle.rules.specs.Answers.{number, refuse, SuperKo}

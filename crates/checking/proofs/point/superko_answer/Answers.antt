@@ -1,7 +1,6 @@
 -- `superko_answer`: either way, by whether the board is recorded.
 use mathlib.Core.Path.{sym, ap, ◌∙◌}
 use mathlib.Core.Bool.{Bool}
-use borrow.Author.Rules.{rules}
 use Rattle.rules.specs.Answers.{number, refuse, SuperKo}
 use Rattle.checking.proofs.point.superko_answer.Goals as goal
 

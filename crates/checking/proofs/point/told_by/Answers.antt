@@ -1,5 +1,4 @@
 -- `told_by`: what is told of the spot is told of every board that looks so.
-use borrow.Author.Rules.{rules}
 use Rattle.checking.specs.Laws.Asking.{told-seen}
 use Rattle.checking.proofs.point.told_by.Goals as goal
 

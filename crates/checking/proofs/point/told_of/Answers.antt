@@ -12,7 +12,6 @@ use Rattle.legality.specs.Near.{besides, saves, catches_more, caught}
 use Rattle.checking.specs.declared.spot.Spot.{Spot}
 use Rattle.checking.specs.declared.superko.Told.{Told}
 use Rattle.checking.specs.Told.{at_ko, told_of, told_near, told_spot}
-use borrow.Author.Rules.{rules}
 use Rattle.checking.proofs.point.told_of.Goals.{Start}
 use Rattle.checking.proofs.point.told_of.Goals as goal
 

@@ -1,6 +1,5 @@
 -- `refuses_suicide`: either way, by the flag.
 use mathlib.Core.Path.{◌∙◌}
-use borrow.Author.Rules.{rules}
 use borrow.Author.Tests.{eq-eqb, ne_eqb}
 use Rattle.rules.specs.Flags.{forbids}
 use Rattle.checking.proofs.refusal.refuses_suicide.Goals as goal

@@ -9,7 +9,6 @@ use Rattle.rules.specs.Answers.{number}
 use Rattle.legality.specs.Near.{besides, saves, catches_more}
 use Rattle.checking.specs.Told.{first_refusal}
 use Rattle.checking.specs.Laws.Told.{told-refused, told_free, told-superko}
-use borrow.Author.Rules.{rules}
 use Rattle.checking.proofs.refusal.told.Goals.{After-first_refusal-first}
 use Rattle.checking.proofs.refusal.told.Goals as goal
 

@@ -2,7 +2,6 @@
 use mathlib.Core.Path.{sym, ap, ◌∙◌}
 use mathlib.Core.Bool.{not}
 use Rattle.checking.specs.Laws.Spot.{spot-off, spot-empty, spot-stone}
-use borrow.Author.Rules.{rules}
 use Rattle.checking.proofs.spot.spot_of.Goals as goal
 
 pub returns-then-not-is_coord_valid : goal.returns-then-not-is_coord_valid

@@ -2,7 +2,6 @@
 use mathlib.Core.Path.{◌≡◌, ap, ◌∙◌}
 use Prim.Native.Nat.{ℕ}
 use lib.ListN.{length}
-use borrow.Author.Rules.{rules}
 use Rattle.rules.specs.Records.{record_of, capacity, recorded}
 use Rattle.rules.specs.Move.{played}
 use Rattle.rules.specs.Calls.{resulting}

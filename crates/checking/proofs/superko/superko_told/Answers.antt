@@ -1,8 +1,7 @@
 -- `superko_told`: the ways out are the cases of the definition.
 use mathlib.Core.Path.{sym, ◌∙◌}
 use native.Mathlib.Omega.{arith}
-use borrow.Author.Rules.{rules}
-use borrow.Author.Tests.{lt-ltb, le-ltb, not-true, not-false}
+use borrow.Author.Tests.{lt-ltb, le-ltb}
 use Rattle.rules.specs.Answers.{number}
 use Rattle.checking.specs.Told.{superko_told}
 use Rattle.checking.proofs.superko.superko_told.Goals as goal

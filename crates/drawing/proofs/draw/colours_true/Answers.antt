@@ -16,7 +16,6 @@ use Rattle.viewing.specs.Laws.View.{view-colours}
 use Rattle.listing.specs.Laws.Seen.{view-seen}
 use Rattle.rules.proofs.Laws.Answers.{accepts-zero}
 use Rattle.listing.specs.Laws.Answers.{length-enough, left-refused, left-filled}
-use borrow.Author.Rules.{rules}
 use Rattle.drawing.proofs.draw.colours_true.Goals.{After-view_of-view}
 use Rattle.drawing.proofs.draw.colours_true.Goals as goal
 

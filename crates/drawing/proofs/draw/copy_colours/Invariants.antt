@@ -1,11 +1,9 @@
 -- `copy_colours`: after i turns the first i colours are written. The measure is what is left.
-use mathlib.Core.Path.{◌≡◌, refl, ◌∙◌, subst}
-use Prim.Native.Nat.{ℕ, ◌≤◌, ◌-◌}
-use native.Mathlib.Omega.{arith}
-use lib.ListN.{length, get_or, length-set}
+use mathlib.Core.Path.{◌≡◌}
+use Prim.Native.Nat.{◌≤◌, ◌-◌}
+use lib.ListN.{length, get_or}
 use Rattle.rules.specs.Lists.{tabulate}
 use Rattle.viewing.specs.Front.{Front}
-use Rattle.viewing.specs.Laws.Front.{front-none, front-tabulate}
 use Rattle.drawing.proofs.draw.copy_colours.Given as goal
 
 abbrev pub invariant-loop-i : goal.invariant-loop-i

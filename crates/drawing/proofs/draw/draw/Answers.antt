@@ -1,8 +1,7 @@
-use Prim.Native.Nat.{◌+◌, ◌-◌, ◌≤◌}
+use Prim.Native.Nat.{◌+◌, ◌≤◌}
 use native.Mathlib.Omega.{arith}
 use lib.ListN.{length}
 use Rattle.rules.specs.Picture.{picture_bytes}
-use Rattle.drawing.specs.Picture.{Drawing}
 use Rattle.drawing.specs.Laws.Picture.{drawing-none, drawing-sign, drawing-newline, drawing-done, room-sign, room-newline}
 use Rattle.drawing.proofs.draw.draw.Goals.{Else-column-width, Then-column-width}
 use Rattle.drawing.proofs.draw.draw.Goals as goal

@@ -1,10 +1,7 @@
 -- `draw`: after each turn the buffer holds the picture up to the row and the column. The measure is what is left of its bytes.
-use Prim.Native.Nat.{◌+◌, ◌-◌, ◌≤◌}
-use native.Mathlib.Omega.{arith}
-use lib.ListN.{length}
+use Prim.Native.Nat.{◌-◌}
 use Rattle.rules.specs.Picture.{picture_bytes}
 use Rattle.drawing.specs.Picture.{Drawing}
-use Rattle.drawing.specs.Laws.Picture.{drawing-none, drawing-sign, drawing-newline, drawing-done, room-sign, room-newline}
 use Rattle.drawing.proofs.draw.draw.Given as goal
 
 abbrev pub invariant-loop-row : goal.invariant-loop-row

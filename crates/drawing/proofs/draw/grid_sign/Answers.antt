@@ -6,7 +6,6 @@ use native.Mathlib.Omega.{arith}
 use lib.Dec.{eqb}
 use borrow.Author.Tests.{eq-eqb, ne_eqb}
 use Rattle.rules.specs.Picture.{grid_sign}
-use borrow.Author.Rules.{rules}
 use Rattle.drawing.proofs.draw.grid_sign.Goals as goal
 
 -- on the top row the tests of the corners below do not matter

@@ -4,7 +4,6 @@ use Prim.Native.Nat.{◌+◌, ◌*◌, ◌≤◌}
 use native.Mathlib.Nat.{mul-le-mul}
 use native.Mathlib.Omega.{arith}
 use Rattle.rules.specs.Picture.{picture_bytes}
-use borrow.Author.Rules.{rules}
 use Rattle.drawing.proofs.draw.picture_bytes.Goals as goal
 
 pub overflow_mul-result-2 : goal.overflow_mul-result-2

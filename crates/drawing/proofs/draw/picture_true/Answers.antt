@@ -14,7 +14,6 @@ use Rattle.viewing.specs.Laws.View.{view-paints}
 use Rattle.listing.specs.Laws.Seen.{view-seen}
 use Rattle.drawing.specs.Laws.Picture.{picture-same, picture-short, picture-fits}
 use Rattle.listing.specs.Laws.Answers.{left-refused, left-filled}
-use borrow.Author.Rules.{rules}
 use Rattle.drawing.proofs.draw.picture_true.Goals.{After-view_of-view}
 use Rattle.drawing.proofs.draw.picture_true.Goals as goal
 

@@ -1,7 +1,6 @@
 -- `pretty_string`: the judge says which of the two it is.
 use Rattle.rules.proofs.Laws.Lists.{not-both}
 use Rattle.listing.specs.Laws.Answers.{answered-damaged, answered-true}
-use borrow.Author.Rules.{rules}
 use Rattle.drawing.proofs.draw.pretty_string.Goals as goal
 
 pub picture_true-requires : goal.picture_true-requires

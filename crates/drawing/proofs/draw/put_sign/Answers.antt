@@ -3,7 +3,6 @@ use mathlib.Core.Path.{refl}
 use native.Mathlib.Omega.{arith}
 use lib.ListN.{length-set}
 use Rattle.drawing.specs.Picture.{signed}
-use borrow.Author.Rules.{rules}
 use Rattle.drawing.proofs.draw.put_sign.Goals as goal
 
 pub bounds-buffer-second : goal.bounds-buffer-second

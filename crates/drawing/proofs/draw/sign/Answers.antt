@@ -6,7 +6,6 @@ use Rattle.rules.specs.Colours.{at}
 use Rattle.rules.specs.Points.{area, index}
 use Rattle.rules.specs.Picture.{sign}
 use Rattle.rules.proofs.Laws.Points.{index_on}
-use borrow.Author.Rules.{rules}
 use Rattle.drawing.proofs.draw.sign.Goals as goal
 
 pub bounds-colours-point : goal.bounds-colours-point

@@ -1,7 +1,6 @@
 -- `to_vec`: the judge says which of the two it is.
 use Rattle.rules.proofs.Laws.Lists.{not-both}
 use Rattle.listing.specs.Laws.Answers.{answered-damaged, answered-true}
-use borrow.Author.Rules.{rules}
 use Rattle.drawing.proofs.draw.to_vec.Goals as goal
 
 pub colours_true-requires : goal.colours_true-requires

@@ -1,5 +1,5 @@
 use mathlib.Core.Path.{◌≡◌, sym, ap, ◌∙◌}
-use Prim.Native.Nat.{ℕ, ◌+◌, ◌-◌, ◌≤◌}
+use Prim.Native.Nat.{ℕ, ◌+◌}
 use native.Mathlib.Omega.{arith}
 use lib.ListN.{drop}
 use Rattle.rules.specs.Points.{corners}
@@ -7,7 +7,6 @@ use Rattle.rules.specs.Tests.{eye_among, empty_corners}
 use Rattle.eyes.specs.declared.eye.Said.{Said}
 use Rattle.eyes.specs.Eye.{decides}
 use Rattle.eyes.specs.Laws.Eye.{among, among-all, among_next, among_none}
-use borrow.Author.Rules.{rules}
 use Rattle.eyes.proofs.eye.eye_among.Goals.{After-scan-answer}
 use Rattle.eyes.proofs.eye.eye_among.Goals as goal
 

@@ -1,14 +1,10 @@
 -- `eyes::eye::eye_among`: the corners before this one do not decide. The measure is how many are left.
-use mathlib.Core.Path.{◌≡◌, sym, ap, ◌∙◌}
-use Prim.Native.Nat.{ℕ, ◌+◌, ◌-◌, ◌≤◌}
-use native.Mathlib.Omega.{arith}
+use mathlib.Core.Path.{◌≡◌}
+use Prim.Native.Nat.{◌-◌, ◌≤◌}
 use lib.ListN.{drop}
 use Rattle.rules.specs.Points.{corners}
 use Rattle.rules.specs.Tests.{eye_among, empty_corners}
-use Rattle.eyes.specs.declared.eye.Said.{Said}
-use Rattle.eyes.specs.Eye.{decides}
-use Rattle.eyes.specs.Laws.Eye.{among, among-all, among_next, among_none}
-use borrow.Author.Rules.{rules}
+use Rattle.eyes.specs.Laws.Eye.{among}
 use Rattle.eyes.proofs.eye.eye_among.Given as goal
 
 abbrev pub invariant-loop-direction : goal.invariant-loop-direction

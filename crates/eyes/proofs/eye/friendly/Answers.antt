@@ -8,7 +8,6 @@ use borrow.Author.Tests.{eq-eqb, ne_eqb}
 use Rattle.rules.specs.Points.{corners}
 use Rattle.rules.specs.Tests as tests
 use Rattle.points.specs.Place.{place_of}
-use borrow.Author.Rules.{rules}
 use Rattle.eyes.proofs.eye.friendly.Goals.{In-At}
 use Rattle.eyes.proofs.eye.friendly.Goals as goal
 

@@ -7,7 +7,6 @@ use Prim.Native.Nat.{ℕ, ◌≤◌}
 use native.Mathlib.Omega.{arith}
 use Rattle.rules.specs.Points.{corners}
 use Rattle.rules.specs.Tests.{friendly, friendly_corners}
-use borrow.Author.Rules.{rules}
 use Rattle.eyes.proofs.eye.friendly_corners.Goals.{After-friendly-d}
 use Rattle.eyes.proofs.eye.friendly_corners.Goals as goal
 

@@ -10,7 +10,6 @@ use Rattle.rules.specs.Points.{neighbours}
 use Rattle.rules.specs.Tests.{friendly_corners, two_or_three}
 use Rattle.eyes.specs.Laws.Around.{all-around}
 use Rattle.eyes.specs.Laws.Eye.{eye-tests}
-use borrow.Author.Rules.{rules}
 use Rattle.eyes.proofs.eye.is_eye.Goals.{After-friendly_corners-friends, After-number_of, After-two_or_three}
 use Rattle.eyes.proofs.eye.is_eye.Goals as goal
 

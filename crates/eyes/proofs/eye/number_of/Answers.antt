@@ -1,8 +1,8 @@
 use mathlib.Core.Bool.{Bool, cond}
 use mathlib.Core.Path.{◌≡◌, refl, sym, ap, ◌∙◌}
 use mathlib.Core.List.{List}
-use mathlib.Core.Logic.{⊎_elim, ◌≢◌}
-use Prim.Native.Nat.{ℕ, ◌+◌, ◌-◌, ◌≤◌, ◌<◌}
+use mathlib.Core.Logic.{◌≢◌}
+use Prim.Native.Nat.{ℕ, ◌+◌, ◌<◌}
 use native.Mathlib.Omega.{arith}
 use lib.Dec.{eqb}
 use lib.ListN.{length, get_or, take}
@@ -57,8 +57,8 @@ loop-i-preserved c =
     c.loop-i-test.true (omega (arith, four (goal.at.loop-i-preserved c).Start, c.requires.1, c.loop-i-test.true))
     c.listed.result c.colour_at.result c.listed.ensures c.colour_at.ensures c.if-colour_at-colour.number in
     elim c.if-colour_at-colour.branch [
-      then-colour_at-colour w ↦ turn.0 w.if-colour_at-colour.true w.number-is
-    | else-colour_at-colour w ↦ turn.1 w.if-colour_at-colour.false w.number-is
+      | then-colour_at-colour w ↦ turn.0 w.if-colour_at-colour.true w.number-is
+      | else-colour_at-colour w ↦ turn.1 w.if-colour_at-colour.false w.number-is
     ]
 
 pub returns : goal.returns

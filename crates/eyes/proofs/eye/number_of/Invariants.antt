@@ -1,17 +1,11 @@
 -- `eyes::eye::number_of`: the number is that of the first i points. The measure is how many points are left.
-use mathlib.Core.Bool.{Bool, cond}
-use mathlib.Core.Path.{◌≡◌, refl, sym, ap, ◌∙◌}
+use mathlib.Core.Path.{◌≡◌}
 use mathlib.Core.List.{List}
-use mathlib.Core.Logic.{⊎_elim, ◌≢◌}
-use Prim.Native.Nat.{ℕ, ◌+◌, ◌-◌, ◌≤◌, ◌<◌}
-use native.Mathlib.Omega.{arith}
+use Prim.Native.Nat.{ℕ, ◌-◌, ◌≤◌}
 use lib.Dec.{eqb}
-use lib.ListN.{length, get_or, take}
-use borrow.Author.Tests.{eq-eqb, ne_eqb}
+use lib.ListN.{take}
 use Rattle.rules.specs.Lists as lists
 use Rattle.rules.specs.Colours.{at}
-use Rattle.eyes.specs.Laws.Counting.{count-more}
-use borrow.Author.Rules.{rules}
 use Rattle.eyes.proofs.eye.number_of.Given as goal
 
 -- the first i points are counted

@@ -14,7 +14,6 @@ use Rattle.points.specs.Place.{place_of}
 use Rattle.eyes.specs.Eye.{scanned}
 use Rattle.eyes.specs.Laws.Around.{any-around}
 use Rattle.eyes.specs.Laws.Eye.{scanned-tests}
-use borrow.Author.Rules.{rules}
 use Rattle.eyes.proofs.eye.scan.Goals.{After-number_of, After-two_or_three, Else-colour_at-ne-EMPTY, In-At}
 use Rattle.eyes.proofs.eye.scan.Goals as goal
 

@@ -2,7 +2,6 @@
 use mathlib.Core.Path.{sym}
 use native.Mathlib.Omega.{arith}
 use Rattle.flooding.specs.Laws.Edges.{below-some, below_none}
-use borrow.Author.Rules.{rules}
 use Rattle.flooding.proofs.edges.below.Goals as goal
 
 pub returns-then-next-area : goal.returns-then-next-area

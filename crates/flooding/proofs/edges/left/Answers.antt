@@ -6,7 +6,6 @@ use borrow.Author.Tests.{eqb-true, eqb-false}
 use Rattle.rules.specs.Points.{column}
 use Rattle.rules.specs.Flood.{marked}
 use Rattle.flooding.specs.Laws.Edges.{left-some, left-none, left-positive}
-use borrow.Author.Rules.{rules}
 use Rattle.flooding.proofs.edges.left.Goals.{Else-starts-point}
 use Rattle.flooding.proofs.edges.left.Goals as goal
 

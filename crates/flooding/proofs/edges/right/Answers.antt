@@ -5,7 +5,6 @@ use native.Mathlib.Omega.{arith}
 use borrow.Author.Tests.{eqb-true, eqb-false}
 use Rattle.rules.specs.Flood.{marked}
 use Rattle.flooding.specs.Laws.Edges.{right-some, right-none}
-use borrow.Author.Rules.{rules}
 use Rattle.flooding.proofs.edges.right.Goals as goal
 
 pub returns-then-starts-next : goal.returns-then-starts-next

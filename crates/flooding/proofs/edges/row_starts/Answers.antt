@@ -1,7 +1,5 @@
-use Prim.Native.Nat.{◌+◌, ◌-◌}
 use native.Mathlib.Omega.{arith}
-use Rattle.flooding.specs.Laws.Edges.{Begun, begun-none, begun-next, begun_all}
-use borrow.Author.Rules.{rules}
+use Rattle.flooding.specs.Laws.Edges.{begun-none, begun-next, begun_all}
 use Rattle.flooding.proofs.edges.row_starts.Goals as goal
 
 pub loop-point-init : goal.loop-point-init

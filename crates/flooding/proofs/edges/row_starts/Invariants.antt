@@ -1,8 +1,6 @@
 -- `row_starts` meets its contract: the points before the one that is reached are told, and it begins a row. The measure is what is left.
 use Prim.Native.Nat.{◌+◌, ◌-◌}
-use native.Mathlib.Omega.{arith}
-use Rattle.flooding.specs.Laws.Edges.{Begun, begun-none, begun-next, begun_all}
-use borrow.Author.Rules.{rules}
+use Rattle.flooding.specs.Laws.Edges.{Begun}
 use Rattle.flooding.proofs.edges.row_starts.Given as goal
 
 abbrev pub invariant-loop-point : goal.invariant-loop-point

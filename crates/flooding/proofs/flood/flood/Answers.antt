@@ -1,9 +1,8 @@
 use mathlib.Core.Path.{ap, ◌∙◌}
 use mathlib.Core.List.{List}
-use Prim.Native.Nat.{ℕ, ◌<◌, ◌-◌}
+use Prim.Native.Nat.{ℕ, ◌<◌}
 use native.Mathlib.Omega.{arith}
 use lib.ListN.{length, length-replicate}
-use Rattle.rules.specs.Sizes.{max_area}
 use Rattle.rules.specs.Points.{area}
 use Rattle.owning.specs.Owners.{owner_in}
 use Rattle.flooding.specs.Flood.{seen_words, sees}
@@ -11,7 +10,6 @@ use Rattle.flooding.specs.Laws.Found.{found-says, found-on}
 use Rattle.flooding.specs.Laws.Looked.{looked-pushed}
 use Rattle.flooding.specs.Laws.Seen.{none_seen}
 use Rattle.flooding.specs.Laws.Flooding.{Flooding, flooding-begin, flooding-next, flooding-end}
-use borrow.Author.Rules.{rules}
 use Rattle.flooding.proofs.flood.flood.Goals.{After-index-point, At-loop-head}
 use Rattle.flooding.proofs.flood.flood.Goals as goal
 

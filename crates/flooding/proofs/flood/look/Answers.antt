@@ -8,7 +8,6 @@ use Rattle.rules.proofs.Laws.Lists.{get_d_default}
 use Rattle.points.specs.Place.{place_of, Within}
 use Rattle.owning.specs.Owners.{owner_in}
 use Rattle.flooding.specs.Laws.Looked.{looked-none, looked-past, looked-empty, looked-pushed, room}
-use borrow.Author.Rules.{rules}
 use Rattle.flooding.proofs.flood.look.Goals.{After-index-owner, In-At}
 use Rattle.flooding.proofs.flood.look.Goals as goal
 

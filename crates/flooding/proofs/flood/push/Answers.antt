@@ -4,7 +4,6 @@ use mathlib.Core.Bool.{Bool, cond}
 use lib.Bits.{bit_xor}
 use borrow.Author.Tests.{lt-ltb}
 use Rattle.rules.specs.Hash.{stone_hash}
-use borrow.Author.Rules.{rules}
 use Rattle.flooding.proofs.flood.push.Goals as goal
 
 pub returns : goal.returns

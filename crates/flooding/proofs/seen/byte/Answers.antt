@@ -1,6 +1,5 @@
 -- `byte` meets its contract: beyond the last byte the definition reads 0.
 use mathlib.Core.Path.{◌≡◌, refl, sym}
-use Prim.Native.Nat.{◌<◌}
 use native.Mathlib.Omega.{arith}
 use lib.ListN.{length, get_or, get_or-eq_default}
 use mir.Syntax.{w8}

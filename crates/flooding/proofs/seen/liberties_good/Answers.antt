@@ -1,12 +1,12 @@
 use mathlib.Core.Path.{◌≡◌, sym, ◌∙◌}
-use Prim.Native.Nat.{ℕ, ◌≤◌, ◌<◌, ◌-◌, ◌^◌}
+use Prim.Native.Nat.{ℕ, ◌<◌, ◌^◌}
 use native.Mathlib.Omega.{arith}
 use lib.ListN.{get_or}
 use mir.Syntax.{w8, w64}
 use mir.Val.{Fits}
 use Rattle.sets.specs.Liberties.{LibertySet}
 use Rattle.flooding.specs.Flood.{seen_words}
-use Rattle.flooding.specs.Laws.Seen.{Compared, compared-none, compared-next, word-differs, words-decide}
+use Rattle.flooding.specs.Laws.Seen.{compared-none, compared-next, word-differs, words-decide}
 use borrow.Author.Rules.{rules}
 use Rattle.flooding.proofs.seen.liberties_good.Goals.{Start}
 use Rattle.flooding.proofs.seen.liberties_good.Goals as goal

@@ -6,7 +6,6 @@ use native.Mathlib.Omega.{arith}
 use lib.Dec.{lit<}
 use lib.Pow.{shl_exact}
 use Rattle.flooding.specs.Laws.Seen.{saw-stored}
-use borrow.Author.Rules.{rules}
 use Rattle.flooding.proofs.seen.see.Goals as goal
 
 pub returns : goal.returns

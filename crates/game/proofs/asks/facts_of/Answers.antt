@@ -1,13 +1,11 @@
 -- A damaged state tells nothing; every fact of a true one is its field, or what the leaf for it ensures.
 use mathlib.Core.Path.{refl}
-use borrow.Author.Tests.{not-true, not-false}
 use Rattle.rules.specs.Answers.{number}
 use Rattle.rules.proofs.Laws.Lists.{not-both}
 use Rattle.game.specs.View.{view_of, TrueState}
 use Rattle.game.specs.Asks.{no_facts}
 use Rattle.game.specs.Judge.{Decides}
 use Rattle.game.specs.Laws.Judge.{decides-state}
-use borrow.Author.Rules.{rules}
 use Rattle.game.proofs.asks.facts_of.Goals.{After-numbers_fit}
 use Rattle.game.proofs.asks.facts_of.Goals as goal
 

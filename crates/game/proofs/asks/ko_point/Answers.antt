@@ -2,7 +2,6 @@
 use mathlib.Core.Path.{sym, ap, ◌∙◌}
 use mathlib.Core.Option.{some}
 use Rattle.game.specs.Laws.View.{ko-none, ko-some}
-use borrow.Author.Rules.{rules}
 use Rattle.game.proofs.asks.ko_point.Goals as goal
 
 pub returns-then-ko-eq-NO_POINT : goal.returns-then-ko-eq-NO_POINT

@@ -1,7 +1,6 @@
 -- The fields are the definition's, the board by what `empty_board` ensures.
 use Rattle.rules.specs.Colours.{black}
 use Rattle.game.specs.View.{no_point, fresh_state}
-use borrow.Author.Rules.{rules}
 use Rattle.game.proofs.calls.fresh.Goals as goal
 
 pub returns : goal.returns

@@ -1,11 +1,9 @@
 -- Each way out is a test of the rules' order that refuses, or all of them passed.
 use mathlib.Core.Path.{◌≡◌, sym, ◌∙◌}
 use mathlib.Core.Bool.{true}
-use borrow.Author.Tests.{not-true, not-false}
 use Rattle.rules.specs.Calls.{side_ok}
 use Rattle.rules.specs.Answers.{number}
 use Rattle.game.specs.Laws.Promise.{made-low, made-narrow, made-unflagged, made-fresh}
-use borrow.Author.Rules.{rules}
 use Rattle.game.proofs.calls.new_game.Goals.{Else-not-is_side, Else-not-is_side-2}
 use Rattle.game.proofs.calls.new_game.Goals as goal
 

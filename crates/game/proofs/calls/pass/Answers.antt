@@ -1,13 +1,11 @@
 -- The state is damaged, or the call on its numbers answers.
 use mathlib.Core.List.{[]}
-use borrow.Author.Tests.{not-true, not-false}
 use Rattle.rules.specs.Answers.{number}
 use Rattle.rules.specs.Calls.{pass}
 use Rattle.rules.proofs.Laws.Lists.{not-both}
 use Rattle.game.specs.View.{view_of}
 use Rattle.game.specs.Laws.Promise.{alone-damaged}
 use Rattle.game.specs.Laws.After.{alone-ticked}
-use borrow.Author.Rules.{rules}
 use Rattle.game.proofs.calls.pass.Goals as goal
 
 pub returns-then-not-judge_state : goal.returns-then-not-judge_state

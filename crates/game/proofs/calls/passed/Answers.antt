@@ -7,7 +7,6 @@ use Rattle.rules.specs.Calls.{pass_game, pass}
 use Rattle.game.specs.View.{view_of}
 use Rattle.game.specs.After.{passed}
 use Rattle.game.specs.Laws.After.{paused-refused, pass-ticks}
-use borrow.Author.Rules.{rules}
 use Rattle.game.proofs.calls.passed.Goals as goal
 
 pub returns-then-clock-ge2 : goal.returns-then-clock-ge2

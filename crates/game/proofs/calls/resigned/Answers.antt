@@ -4,7 +4,6 @@ use Rattle.rules.specs.Calls.{resign_game, resign}
 use Rattle.game.specs.View.{turn_of, view_of}
 use Rattle.game.specs.After.{resigned}
 use Rattle.game.specs.Laws.After.{paused-refused, resign-ticks}
-use borrow.Author.Rules.{rules}
 use Rattle.game.proofs.calls.resigned.Goals as goal
 
 pub returns-then-clock-ge2 : goal.returns-then-clock-ge2

@@ -6,7 +6,6 @@ use native.Mathlib.Omega.{arith}
 use borrow.Author.Tests.{ltb-true, lt-ltb}
 use Rattle.game.specs.Laws.View.{ko-none, ko-some}
 use Rattle.game.specs.Laws.Judge.{decides-yes, decides-no}
-use borrow.Author.Rules.{rules}
 use Rattle.game.proofs.judge.in_range.Goals as goal
 
 pub returns-then-flags-gt-MAX_FLAGS : goal.returns-then-flags-gt-MAX_FLAGS

@@ -1,5 +1,4 @@
 -- The board's judge, and the numbers beside what it found.
-use borrow.Author.Rules.{rules}
 use Rattle.game.specs.Laws.Judge.{two_ways, decides-state}
 use Rattle.game.proofs.judge.judge_state.Goals as goal
 

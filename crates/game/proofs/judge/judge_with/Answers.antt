@@ -1,5 +1,4 @@
 -- The board's judge, and the numbers and the room beside what it found.
-use borrow.Author.Rules.{rules}
 use Rattle.game.specs.Laws.Judge.{two_ways, decides-with}
 use Rattle.game.proofs.judge.judge_with.Goals as goal
 

@@ -15,7 +15,6 @@ use Rattle.rules.specs.Game.{stones}
 use Rattle.rules.proofs.Laws.Lists.{not-both}
 use Rattle.board.specs.declared.goban.Board.{Board}
 use Rattle.board.specs.Board.{colours_of}
-use Rattle.game.specs.declared.state.Tally.{Tally}
 use Rattle.game.specs.Clock.{game_of}
 use Rattle.game.specs.View.{TrueState}
 use Rattle.game.specs.Judge.{Judged, Counted, Untouched}
@@ -51,7 +50,7 @@ tested : (c : Else-not-summed) (b : Board) →
     let k = c.args.clock in
     Found c.args.height c.args.width c.args.found b → (k.begun ≡ 0 → Untouched k.put k.records k.passes k.outcome) → TrueState (game_of b k)
 unfolding game_of
-tested c b is start = let limited_here : c.args.clock.accepted ≤ max_stones = let fits : Fits w16 c.args.clock.accepted = search rules in omega (arith, fits.fits) in let good_here : c.args.found.good ≡ true = not-false _ c.if-not-found.false in let counted_here : (b : Board) → Found c.args.height c.args.width c.args.found b → Counted b (let found = c.args.found in record { black = found.black; white = found.white }) = λ b is. (record { blacks = is.2.blacks ∙ ap (λ (t : Bool). cond t (stones (colours_of b) black) 0) (good_here); whites = is.2.whites ∙ ap (λ (t : Bool). cond t (stones (colours_of b) white) 0) (good_here); }) in let sized_here : (b : Board) → Found c.args.height c.args.width c.args.found b → c.area-end.result ≡ rules.area b.height b.width = λ b is. (c.area-end.ensures ∙ ap₂ rules.area (sym is.0) (sym is.1)) in
+tested c b is start = let limited_here : c.args.clock.accepted ≤ max_stones = let fits : Fits w16 c.args.clock.accepted = search rules in omega (arith, fits.fits) in let good_here : c.args.found.good ≡ true = not-false _ c.if-not-found.false in let counted_here : (b : Board) → Found c.args.height c.args.width c.args.found b → Counted b (let found = c.args.found in record { black = found.black; white = found.white }) = λ b is. (record { blacks = is.2.blacks ∙ ap (λ (t : Bool). cond t (stones (colours_of b) black) 0) (good_here); whites = is.2.whites ∙ ap (λ (t : Bool). cond t (stones (colours_of b) white) 0) (good_here) }) in let sized_here : (b : Board) → Found c.args.height c.args.width c.args.found b → c.area-end.result ≡ rules.area b.height b.width = λ b is. (c.area-end.ensures ∙ ap₂ rules.area (sym is.0) (sym is.1)) in
     made-true (game_of b c.args.clock) (is.2.sound (good_here)) (limited_here) _ (sized_here b is)
     (c.in_range.ensures.sound (c.if-not-in_range.false))
     _ (counted_here b is)

@@ -1,6 +1,4 @@
 -- No room decides, or the numbers do.
-use borrow.Author.Tests.{not-true, not-false}
-use borrow.Author.Rules.{rules}
 use Rattle.rules.proofs.Laws.Lists.{not-both}
 use Rattle.game.specs.Clock.{game_of}
 use Rattle.game.specs.View.{RoomIn}

@@ -1,7 +1,6 @@
 -- Each way out has found one sum that does not hold, or all of them.
 use borrow.Author.Tests.{eqb-true, eq-eqb}
 use Rattle.game.specs.Laws.Judge.{decides-no}
-use borrow.Author.Rules.{rules}
 use Rattle.game.proofs.judge.summed.Goals as goal
 
 pub returns-then-black-on : goal.returns-then-black-on

@@ -1,5 +1,4 @@
 -- `column_of` meets its contract: what a number leaves over when divided by 0 is the number. Assumes nothing.
-use borrow.Author.Rules.{rules}
 use mathlib.Core.Path.{refl, sym}
 use native.Mathlib.Nat.{mod-zero}
 use Rattle.rules.specs.Points.{column}

@@ -1,5 +1,4 @@
 -- `on_board` meets its contract: the code and the definition make the same test. Assumes nothing.
-use borrow.Author.Rules.{rules}
 use Rattle.grid.proofs.coord.on_board.Goals as goal
 
 pub returns : goal.returns

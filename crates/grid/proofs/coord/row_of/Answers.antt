@@ -1,5 +1,4 @@
 -- `row_of` meets its contract: a number divided by 0 is 0. Assumes nothing.
-use borrow.Author.Rules.{rules}
 use mathlib.Core.Path.{refl, sym}
 use native.Mathlib.Nat.{div-zero}
 use Rattle.rules.specs.Points.{row}

@@ -4,7 +4,6 @@ use mathlib.Core.List.{List, ◌++◌}
 use Prim.Native.Nat.{ℕ, ◌+◌, ◌*◌}
 use native.Mathlib.Omega.{arith}
 use lib.ListN.{take}
-use borrow.Author.Rules.{rules}
 use borrow.Rule.Slice.PartMut.{Post-is}
 use Rattle.rules.specs.Sizes.{record_bytes}
 use Rattle.history.proofs.lent.add_record.Goals as goal

@@ -1,6 +1,5 @@
 -- `history::lent::is_full`: full is what is not recorded where the count is no longer below the capacity.
 use mathlib.Core.Path.{sym, ◌∙◌}
-use borrow.Author.Rules.{rules}
 use Rattle.history.proofs.lent.is_full.Goals as goal
 
 pub returns-then-is_recorded : goal.returns-then-is_recorded

@@ -1,7 +1,6 @@
 use mathlib.Core.Path.{◌≡◌, sym, ap, ◌∙◌}
-use mathlib.Core.Bool.{false}
 use mathlib.Core.List.{List}
-use Prim.Native.Nat.{ℕ, ◌+◌, ◌*◌, ◌≤◌, ◌<◌, ◌-◌}
+use Prim.Native.Nat.{ℕ, ◌+◌, ◌*◌, ◌≤◌, ◌-◌}
 use native.Mathlib.Omega.{arith}
 use lib.ListN.{length, take, drop}
 use borrow.Author.Count.{below_none, below_more}
@@ -42,12 +41,11 @@ pub slice_bounds-same_record-end : goal.slice_bounds-same_record-end
 slice_bounds-same_record-end c = omega (arith, fits (goal.at.slice_bounds-same_record-end c).Start)
 
 pub same_record-requires : goal.same_record-requires
-same_record-requires c =
-    (
-      ap length (part-stored c.args.history.now c.loop-looked.looked)
-          ∙ length-stored c.args.history.now c.args.count c.loop-looked.looked c.requires.within c.loop-looked-test.true,
-      c.requires.long,
-    )
+same_record-requires c = (
+  ap length (part-stored c.args.history.now c.loop-looked.looked)
+      ∙ length-stored c.args.history.now c.args.count c.loop-looked.looked c.requires.within c.loop-looked-test.true,
+  c.requires.long,
+)
 
 pub returns-then-same_record : goal.returns-then-same_record
 returns-then-same_record c =

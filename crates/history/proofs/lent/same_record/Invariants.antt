@@ -1,11 +1,8 @@
 -- `history::lent::same_record`: the first i bytes are equal. The measure is how many are left.
-use mathlib.Core.Path.{◌≡◌, sym}
+use mathlib.Core.Path.{◌≡◌}
 use Prim.Native.Nat.{ℕ, ◌≤◌, ◌<◌, ◌-◌}
-use native.Mathlib.Omega.{arith}
 use lib.ListN.{get_or}
-use borrow.Author.Count.{below_none, below_more}
 use Rattle.rules.specs.Sizes.{record_bytes}
-use Rattle.history.proofs.Laws.Lists.{same_not, same-each}
 use Rattle.history.proofs.lent.same_record.Given as goal
 
 abbrev pub invariant-loop-i : goal.invariant-loop-i

@@ -1,6 +1,6 @@
 use mathlib.Core.Path.{◌≡◌, refl, ap, ◌∙◌}
 use mathlib.Core.List.{List, ◌++◌, append-nil}
-use Prim.Native.Nat.{ℕ, ◌≤◌, ◌-◌}
+use Prim.Native.Nat.{ℕ}
 use native.Mathlib.Omega.{arith}
 use lib.ListN.{length, get_or, set, drop_of_length-le}
 use lib.Seq.{paste, length-paste}
@@ -20,12 +20,11 @@ pub bounds-part-written : goal.bounds-part-written
 bounds-part-written c = omega (arith, kept (goal.at.bounds-part-written c).At-loop-written)
 
 pub loop-written-preserved : goal.loop-written-preserved
-loop-written-preserved c =
-    (
-      omega arith,
-      ap (λ (l : List ℕ). set l c.loop-written.written (get_or c.args.bytes.now c.loop-written.written 0)) c.loop-written.invariant.1
-          ∙ paste_more c.args.part.now 0 c.args.bytes.now c.loop-written.written c.loop-written.written _ (omega arith) (omega arith) (omega arith) refl,
-    )
+loop-written-preserved c = (
+  omega arith,
+  ap (λ (l : List ℕ). set l c.loop-written.written (get_or c.args.bytes.now c.loop-written.written 0)) c.loop-written.invariant.1
+      ∙ paste_more c.args.part.now 0 c.args.bytes.now c.loop-written.written c.loop-written.written _ (omega arith) (omega arith) (omega arith) refl,
+)
 
 pub returns : goal.returns
 returns c =

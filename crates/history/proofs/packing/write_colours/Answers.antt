@@ -1,10 +1,9 @@
 use mathlib.Core.Path.{◌≡◌, refl, sym, ap, ◌∙◌}
 use mathlib.Core.List.{List}
-use Prim.Native.Nat.{ℕ, ◌+◌, ◌*◌, ◌≤◌, ◌-◌}
+use Prim.Native.Nat.{ℕ, ◌+◌, ◌*◌}
 use native.Mathlib.Omega.{arith}
 use lib.ListN.{set}
 use lib.Seq.{paste, paste-zero}
-use borrow.Author.Rules.{rules}
 use Rattle.rules.specs.Sizes.{hash_bytes, colour_bytes}
 use Rattle.rules.specs.Colours.{at}
 use Rattle.rules.proofs.Laws.Lists.{length-tabulate, get_or-tabulate-zero}

@@ -1,17 +1,11 @@
 -- `history::packing::write_hash`: the bytes before those that are left are written, and the rest is the hash without them. The measure
 -- is how many are left.
-use mathlib.Core.Path.{◌≡◌, refl, sym, ap, ap₂, ◌∙◌}
-use mathlib.Core.List.{List, ◌++◌}
-use Prim.Native.Nat.{ℕ, ◌+◌, ◌-◌, ◌/◌, ◌%◌, ◌^◌, ◌≤◌, ◌<◌}
-use native.Mathlib.Nat.{div-one, div-div-eq-div-mul, pow-suc}
-use native.Mathlib.Numerals.{add-one}
-use native.Mathlib.Omega.{arith}
-use lib.ListN.{length, set, drop}
+use mathlib.Core.Path.{◌≡◌}
+use mathlib.Core.List.{List}
+use Prim.Native.Nat.{ℕ, ◌-◌, ◌/◌, ◌^◌, ◌≤◌}
 use lib.Seq.{paste}
 use Rattle.rules.specs.Sizes.{hash_bytes}
 use Rattle.rules.specs.Records.{low_bytes}
-use Rattle.rules.proofs.Laws.Lists.{length-tabulate, get_or-tabulate-zero}
-use Rattle.history.proofs.Laws.Lists.{paste_more, paste-whole}
 use Rattle.history.proofs.packing.write_hash.Given as goal
 
 -- the first i bytes are written

@@ -1,6 +1,5 @@
 -- `laying::lay::is_captured`: either way, by the first test.
 use mathlib.Core.Path.{◌∙◌}
-use borrow.Author.Rules.{rules}
 use borrow.Author.Tests.{eq-eqb, ne_eqb}
 use Rattle.laying.proofs.lay.is_captured.Goals as goal
 

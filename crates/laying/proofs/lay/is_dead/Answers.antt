@@ -5,7 +5,6 @@ use mathlib.Core.Logic.{⊎_elim}
 use Prim.Native.Nat.{ℕ}
 use native.Mathlib.Omega.{arith}
 use lib.Dec.{eqb, ltb}
-use borrow.Author.Rules.{rules}
 use borrow.Author.Tests.{lt-ltb, le-ltb, eq-eqb, ne_eqb}
 use Rattle.rules.proofs.Laws.Lists.{equal_or_not}
 use Rattle.sets.specs.Liberties.{number}

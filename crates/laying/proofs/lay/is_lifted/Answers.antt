@@ -1,6 +1,5 @@
 -- `laying::lay::is_lifted`: either way, by where the chain stands.
 use mathlib.Core.Path.{◌∙◌}
-use borrow.Author.Rules.{rules}
 use Rattle.laying.proofs.lay.is_lifted.Goals as goal
 
 pub returns-then-beside : goal.returns-then-beside

@@ -1,6 +1,5 @@
 -- `laying::lay::is_lost`: either way, by the flag.
 use mathlib.Core.Path.{◌∙◌}
-use borrow.Author.Rules.{rules}
 use borrow.Author.Tests.{eq-eqb, ne_eqb}
 use Rattle.rules.specs.Flags.{forbids}
 use Rattle.laying.proofs.lay.is_lost.Goals as goal

@@ -1,10 +1,10 @@
-use mathlib.Core.Bool.{Bool, true, cond, not, ◌&&◌}
+use mathlib.Core.Bool.{Bool, cond, not, ◌&&◌}
 use mathlib.Core.Path.{◌≡◌, refl, sym, ap, ◌∙◌, subst}
-use mathlib.Core.List.{List, []}
-use Prim.Native.Nat.{ℕ, ◌+◌, ◌-◌, ◌≤◌, ◌<◌}
+use mathlib.Core.List.{[]}
+use Prim.Native.Nat.{ℕ, ◌≤◌, ◌<◌}
 use native.Mathlib.Omega.{arith}
 use lib.Dec.{eqb, ltb}
-use lib.ListN.{length, get_or, take, drop}
+use lib.ListN.{length, get_or}
 use lib.Seq.{get_or-take}
 use borrow.Author.Rules.{rules}
 use borrow.Author.Tests.{lt-ltb, le-ltb}
@@ -15,9 +15,8 @@ use Rattle.rules.specs.Flags.{SUICIDE, forbids}
 use Rattle.rules.specs.Game.{Player}
 use Rattle.rules.specs.Hash.{stone_hash}
 use Rattle.rules.proofs.Laws.Colours.{other-player}
-use Rattle.points.specs.declared.coord.Around.{Around}
 use Rattle.chains.specs.declared.group.Chain.{Chain}
-use Rattle.chains.specs.Group.{new_chain, first_free}
+use Rattle.chains.specs.Group.{new_chain}
 use Rattle.sets.specs.Liberties.{number}
 use Rattle.board.specs.declared.goban.Board.{Board}
 use Rattle.board.specs.Board.{owner}
@@ -26,12 +25,11 @@ use Rattle.steps.specs.Steps.{put}
 use Rattle.steps.specs.Putting.{Putting}
 use Rattle.steps.specs.Joining.{Joining}
 use Rattle.steps.specs.Laws.Put.{point-fits}
-use Rattle.laying.specs.declared.lay.Laid as code
-use Rattle.laying.specs.Lay.{join_all, dead, take_all}
+use Rattle.laying.specs.Lay.{join_all, take_all}
 use Rattle.laying.specs.Laws.Laying.{search-low, search-next, search-found, end_low, end-used, laid_out}
-use Rattle.laying.proofs.Alone.{placed, Passed, passed-owners, passed-owned, passed-unowned, passed-all}
+use Rattle.laying.proofs.Alone.{placed, passed-owners, passed-owned, passed-unowned, passed-all}
 use Rattle.laying.proofs.Beside.{Gathering, gathering-none, gathering-unowned, gathering-other, gathering-joining, gathering-join, gathering-all, taking-all}
-use Rattle.laying.proofs.Lifting.{Ended, Lifting, Stands, lifting-none, lifting-unowned, lifting-other, lifting-removing, lifting-few, lifting-take, lifting-own}
+use Rattle.laying.proofs.Lifting.{Ended, Stands, lifting-none, lifting-unowned, lifting-other, lifting-removing, lifting-few, lifting-take, lifting-own}
 use Rattle.laying.proofs.Joined.{joined-walk, joined-links, joined-count, joined-all}
 use Rattle.laying.proofs.lay.lay.Invariants.{points}
 use Rattle.laying.proofs.lay.lay.Goals.{After-is_lifted, After-loop-i-3, After-neighbours-around, After-other-enemy, After-owner_beside-owner-in-loop-i-2, After-stone_hash, After-turn_of-owner, At-loop-i, At-loop-i-3, At-loop-slot, Then-joins}
@@ -354,9 +352,12 @@ tested c = let listed_here : points c.neighbours-around.result ≡ neighbours c.
 
 pub remove_chain-board-requires : goal.remove_chain-board-requires
 remove_chain-board-requires c =
-    record { removing = lifting-removing _ _ _ _ _ (enemy (goal.at.remove_chain-board-requires c).After-other-enemy) (mine-low (goal.at.remove_chain-board-requires c).At-loop-i-3) (stands (goal.at.remove_chain-board-requires c).At-loop-i-3) _ _ _ _ _ c.loop-i-3.invariant (in-turn-2 (goal.at.remove_chain-board-requires c).After-turn_of-owner) _
+    record {
+      removing = lifting-removing _ _ _ _ _ (enemy (goal.at.remove_chain-board-requires c).After-other-enemy) (mine-low (goal.at.remove_chain-board-requires c).At-loop-i-3) (stands (goal.at.remove_chain-board-requires c).At-loop-i-3) _ _ _ _ _ c.loop-i-3.invariant (in-turn-2 (goal.at.remove_chain-board-requires c).After-turn_of-owner) _
           (here-2 (goal.at.remove_chain-board-requires c).After-turn_of-owner) _ (its-2 (goal.at.remove_chain-board-requires c).After-turn_of-owner)
-          past c.if-owner-lt-SLOTS-3.true _ (tested (goal.at.remove_chain-board-requires c).After-is_lifted) c.if-is_lifted.true; numbers = c.requires.numbers }
+          past c.if-owner-lt-SLOTS-3.true _ (tested (goal.at.remove_chain-board-requires c).After-is_lifted) c.if-is_lifted.true;
+      numbers = c.requires.numbers;
+    }
 
 pub overflow_add-taken : goal.overflow_add-taken
 overflow_add-taken c =

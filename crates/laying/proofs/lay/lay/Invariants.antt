@@ -1,41 +1,17 @@
 -- `laying::lay::lay`: the search stands at a slot such that the first free one is not before it, and ends, since one is free on a true
 -- board. Then the turns over the points beside: the liberties lost so far, what is joined so far, what is lifted so far. The measures
 -- are what is left.
-use mathlib.Core.Bool.{Bool, true, cond, not, ◌&&◌}
-use mathlib.Core.Path.{◌≡◌, refl, sym, ap, ◌∙◌, subst}
-use mathlib.Core.List.{List, []}
-use Prim.Native.Nat.{ℕ, ◌+◌, ◌-◌, ◌≤◌, ◌<◌}
-use native.Mathlib.Omega.{arith}
-use lib.Dec.{eqb, ltb}
-use lib.ListN.{length, get_or, take, drop}
-use lib.Seq.{get_or-take}
-use borrow.Author.Rules.{rules}
-use borrow.Author.Tests.{lt-ltb}
-use Rattle.rules.specs.Sizes.{max_area, slots}
-use Rattle.rules.specs.Points.{neighbours}
-use Rattle.rules.specs.Colours.{other}
+use mathlib.Core.Path.{◌≡◌}
+use mathlib.Core.List.{List}
+use Prim.Native.Nat.{ℕ, ◌+◌, ◌-◌}
+use lib.ListN.{take, drop}
+use Rattle.rules.specs.Sizes.{slots}
 use Rattle.rules.specs.Flags.{SUICIDE, forbids}
-use Rattle.rules.specs.Game.{Player}
-use Rattle.rules.specs.Hash.{stone_hash}
-use Rattle.rules.proofs.Laws.Colours.{other-player}
 use Rattle.points.specs.declared.coord.Around.{Around}
-use Rattle.chains.specs.declared.group.Chain.{Chain}
-use Rattle.chains.specs.Group.{new_chain, first_free}
-use Rattle.sets.specs.Liberties.{number}
-use Rattle.board.specs.declared.goban.Board.{Board}
-use Rattle.board.specs.Board.{owner}
-use Rattle.board.specs.Laws.Chains.{Largest}
-use Rattle.steps.specs.Steps.{put}
-use Rattle.steps.specs.Putting.{Putting}
-use Rattle.steps.specs.Joining.{Joining}
-use Rattle.steps.specs.Laws.Put.{point-fits}
-use Rattle.laying.specs.declared.lay.Laid as code
-use Rattle.laying.specs.Lay.{join_all, dead, take_all}
-use Rattle.laying.specs.Laws.Laying.{search-low, search-next, search-found, end_low, end-used, laid_out}
-use Rattle.laying.proofs.Alone.{placed, Passed, passed-owners, passed-owned, passed-unowned, passed-all}
-use Rattle.laying.proofs.Beside.{Gathering, gathering-none, gathering-unowned, gathering-other, gathering-joining, gathering-join, gathering-all, taking-all}
-use Rattle.laying.proofs.Lifting.{Ended, Lifting, Stands, lifting-none, lifting-unowned, lifting-other, lifting-removing, lifting-few, lifting-take, lifting-own}
-use Rattle.laying.proofs.Joined.{joined-walk, joined-links, joined-count, joined-all}
+use Rattle.chains.specs.Group.{first_free}
+use Rattle.laying.proofs.Alone.{Passed}
+use Rattle.laying.proofs.Beside.{Gathering}
+use Rattle.laying.proofs.Lifting.{Lifting}
 use Rattle.laying.proofs.lay.lay.Given as goal
 
 -- the points beside

@@ -3,7 +3,6 @@ use mathlib.Core.Path.{◌≡◌, sym, ap, ◌∙◌}
 use Prim.Native.Nat.{ℕ}
 use native.Mathlib.Omega.{arith}
 use lib.ListN.{get_or, get_or-eq_default}
-use borrow.Author.Rules.{rules}
 use Rattle.rules.specs.Sizes.{slots}
 use Rattle.rules.proofs.Laws.Lists.{get_d_default}
 use Rattle.laying.proofs.lay.owner_beside.Goals as goal

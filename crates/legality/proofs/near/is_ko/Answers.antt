@@ -1,11 +1,6 @@
-use mathlib.Core.Path.{◌≡◌, sym, ap₂}
-use mathlib.Core.Bool.{Bool, false, not, ◌&&◌}
-use Prim.Native.Nat.{◌-◌}
-use native.Mathlib.Omega.{arith}
-use borrow.Author.Tests.{not-true, not-false}
-use Rattle.legality.specs.Near.{catches_more}
-use borrow.Author.Rules.{rules}
-use Rattle.legality.proofs.Places.{Passed, start, within-four, found, next, ended}
+use mathlib.Core.Path.{sym, ap₂}
+use mathlib.Core.Bool.{Bool, not, ◌&&◌}
+use Rattle.legality.proofs.Places.{start, within-four, found, next, ended}
 use Rattle.legality.proofs.near.is_ko.Goals as goal
 
 pub returns-then-not-at_ko_point : goal.returns-then-not-at_ko_point

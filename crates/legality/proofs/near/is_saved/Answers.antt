@@ -3,7 +3,6 @@ use mathlib.Core.Path.{sym, ap, ◌∙◌}
 use Prim.Native.Nat.{ℕ}
 use Rattle.legality.specs.Near.{caught}
 use Rattle.legality.specs.Laws.Near.{saves-empty, saves-own, saves-other}
-use borrow.Author.Rules.{rules}
 use Rattle.legality.proofs.near.is_saved.Goals as goal
 
 pub returns-then-beside-eq-EMPTY : goal.returns-then-beside-eq-EMPTY

@@ -1,10 +1,6 @@
 use mathlib.Core.Path.{sym, ap}
 use mathlib.Core.Bool.{not}
-use Prim.Native.Nat.{◌-◌}
-use native.Mathlib.Omega.{arith}
-use Rattle.legality.specs.Near.{saves}
-use borrow.Author.Rules.{rules}
-use Rattle.legality.proofs.Places.{Passed, start, within-four, found, next, ended}
+use Rattle.legality.proofs.Places.{start, within-four, found, next, ended}
 use Rattle.legality.proofs.near.is_suicide.Goals as goal
 
 pub loop-i-init : goal.loop-i-init

@@ -1,11 +1,7 @@
 -- `legality::near::is_suicide`: the first i places do not save the stone. The measure is how many are left.
-use mathlib.Core.Path.{sym, ap}
-use mathlib.Core.Bool.{not}
 use Prim.Native.Nat.{◌-◌}
-use native.Mathlib.Omega.{arith}
 use Rattle.legality.specs.Near.{saves}
-use borrow.Author.Rules.{rules}
-use Rattle.legality.proofs.Places.{Passed, start, within-four, found, next, ended}
+use Rattle.legality.proofs.Places.{Passed}
 use Rattle.legality.proofs.near.is_suicide.Given as goal
 
 abbrev pub invariant-loop-i : goal.invariant-loop-i

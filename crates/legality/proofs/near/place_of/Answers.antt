@@ -1,7 +1,6 @@
 -- `legality::near::place_of`: the three arrays are read at one place.
 use mathlib.Core.Path.{refl}
 use Rattle.legality.specs.Near.{place}
-use borrow.Author.Rules.{rules}
 use Rattle.legality.proofs.near.place_of.Goals as goal
 
 pub returns : goal.returns

@@ -1,10 +1,8 @@
 use mathlib.Core.Path.{sym, ap, ◌∙◌}
-use Prim.Native.Nat.{ℕ, ◌-◌}
-use native.Mathlib.Omega.{arith}
+use Prim.Native.Nat.{ℕ}
 use Rattle.rules.specs.Lists.{any}
 use Rattle.legality.specs.Near.{caught, besides}
-use borrow.Author.Rules.{rules}
-use Rattle.legality.proofs.Places.{Passed, start, within-four, found, next, ended}
+use Rattle.legality.proofs.Places.{start, within-four, found, next, ended}
 use Rattle.legality.proofs.near.will_capture.Goals as goal
 
 pub loop-i-init : goal.loop-i-init

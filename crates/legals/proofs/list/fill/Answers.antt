@@ -1,20 +1,15 @@
-use mathlib.Core.Bool.{Bool, not}
-use mathlib.Core.List.{List}
-use mathlib.Core.Logic.{⊎_elim}
+use mathlib.Core.Bool.{not}
 use mathlib.Core.Path.{◌≡◌, refl, sym, ap, ◌∙◌, subst}
-use Prim.Native.Nat.{ℕ, ◌+◌, ◌≤◌, ◌<◌}
+use Prim.Native.Nat.{ℕ, ◌≤◌, ◌<◌}
 use native.Mathlib.Omega.{arith}
-use borrow.Author.Rules.{rules}
 use lib.ListN.{length, length-set}
 use Rattle.rules.specs.Sizes.{max_area}
 use Rattle.rules.specs.Lists.{pick, below}
-use Rattle.rules.specs.Points.{area, row, column}
-use Rattle.rules.specs.Answers.{accepts}
-use Rattle.rules.specs.Calls.{point_answer, legals}
+use Rattle.rules.specs.Points.{area}
+use Rattle.rules.specs.Calls.{legals}
 use Rattle.board.specs.Laws.Board.{area-fits}
 use Rattle.viewing.specs.Front.{Front}
 use Rattle.viewing.specs.Laws.Front.{front-pick-none, front-pick, front-skip}
-use Rattle.game.specs.declared.state.Game.{Game}
 use Rattle.game.specs.View.{view_of}
 use Rattle.checking.specs.Laws.Near.{read-shows}
 use Rattle.legals.specs.Laws.Legals.{legal-known, legal-again, legal-repeating}
@@ -40,14 +35,14 @@ found c = let on-board_here : let point = c.loop-left.point in let b = c.args.ga
     let g = c.args.game in
     let is = c.requires.state.board in
     elim c.if-is_undecided.branch [
-      then-is_undecided w ↦
-    w.legal-is ∙ ap not w.repeats-legal.ensures
-    ∙ legal-again g is c.args.flags _ (on-board_here) _ c.seen_of-seen.ensures _ c.player_of-colour.ensures _ c.told_at-answer.ensures c.args.history.now
-    (sym c.is_undecided.ensures ∙ w.if-is_undecided.true)
-    | else-is_undecided w ↦
-    w.legal-is ∙ c.is_free-legal.ensures
-    ∙ legal-known g is c.args.flags _ (on-board_here) _ c.seen_of-seen.ensures _ c.player_of-colour.ensures _ c.told_at-answer.ensures c.args.history.now
-    (sym c.is_undecided.ensures ∙ w.if-is_undecided.false)
+      | then-is_undecided w ↦
+          w.legal-is ∙ ap not w.repeats-legal.ensures
+          ∙ legal-again g is c.args.flags _ (on-board_here) _ c.seen_of-seen.ensures _ c.player_of-colour.ensures _ c.told_at-answer.ensures c.args.history.now
+          (sym c.is_undecided.ensures ∙ w.if-is_undecided.true)
+      | else-is_undecided w ↦
+          w.legal-is ∙ c.is_free-legal.ensures
+          ∙ legal-known g is c.args.flags _ (on-board_here) _ c.seen_of-seen.ensures _ c.player_of-colour.ensures _ c.told_at-answer.ensures c.args.history.now
+          (sym c.is_undecided.ensures ∙ w.if-is_undecided.false)
     ]
 
 pub loop-left-init : goal.loop-left-init

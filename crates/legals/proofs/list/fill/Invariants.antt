@@ -1,24 +1,16 @@
 -- `fill`: after some turns the legal points among the first stand at the front. The measure is how many points are left.
-use mathlib.Core.Bool.{Bool, not}
+use mathlib.Core.Bool.{Bool}
 use mathlib.Core.List.{List}
-use mathlib.Core.Logic.{⊎_elim}
-use mathlib.Core.Path.{◌≡◌, refl, sym, ap, ◌∙◌, subst}
-use Prim.Native.Nat.{ℕ, ◌+◌, ◌≤◌, ◌<◌}
-use native.Mathlib.Omega.{arith}
-use borrow.Author.Rules.{rules}
-use lib.ListN.{length, length-set}
-use Rattle.rules.specs.Sizes.{max_area}
+use mathlib.Core.Path.{◌≡◌}
+use Prim.Native.Nat.{ℕ, ◌+◌, ◌≤◌}
+use lib.ListN.{length}
 use Rattle.rules.specs.Lists.{pick, below}
-use Rattle.rules.specs.Points.{area, row, column}
+use Rattle.rules.specs.Points.{row, column}
 use Rattle.rules.specs.Answers.{accepts}
-use Rattle.rules.specs.Calls.{point_answer, legals}
-use Rattle.board.specs.Laws.Board.{area-fits}
+use Rattle.rules.specs.Calls.{point_answer}
 use Rattle.viewing.specs.Front.{Front}
-use Rattle.viewing.specs.Laws.Front.{front-pick-none, front-pick, front-skip}
 use Rattle.game.specs.declared.state.Game.{Game}
 use Rattle.game.specs.View.{view_of}
-use Rattle.checking.specs.Laws.Near.{read-shows}
-use Rattle.legals.specs.Laws.Legals.{legal-known, legal-again, legal-repeating}
 use Rattle.legals.proofs.list.fill.Given as goal
 
 -- the rules' test of a point

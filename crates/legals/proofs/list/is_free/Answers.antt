@@ -1,6 +1,5 @@
 -- `is_free`: the number that is told, if one is.
 use mathlib.Core.Path.{sym, ap}
-use borrow.Author.Rules.{rules}
 use Rattle.legals.specs.Legals.{settled_free}
 use Rattle.legals.proofs.list.is_free.Goals as goal
 

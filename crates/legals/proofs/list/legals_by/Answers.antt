@@ -1,7 +1,6 @@
 -- `legals_by`: the judge, then the refusals, then the list.
 use mathlib.Core.Path.{◌≡◌, sym, ap, ◌∙◌}
 use lib.ListN.{length}
-use borrow.Author.Tests.{not-true, not-false}
 use Rattle.rules.specs.Answers.{number}
 use Rattle.rules.specs.Calls.{list_answer}
 use Rattle.rules.proofs.Laws.Lists.{not-both}
@@ -11,7 +10,6 @@ use Rattle.game.specs.Judge.{Decides}
 use Rattle.game.specs.Laws.Judge.{decides-with}
 use Rattle.checking.specs.Laws.Promise.{filled-damaged, filled-told}
 use Rattle.legals.specs.Laws.Legals.{list-refused, refused-enough}
-use borrow.Author.Rules.{rules}
 use Rattle.legals.proofs.list.legals_by.Goals.{After-numbers_fit_with, After-refusal-number, Else-not-numbers_fit_with}
 use Rattle.legals.proofs.list.legals_by.Goals as goal
 

@@ -1,7 +1,6 @@
 -- `told_at`: a stone stands there, or the tests tell.
 use mathlib.Core.Path.{◌∙◌}
 use native.Mathlib.Omega.{arith}
-use borrow.Author.Rules.{rules}
 use borrow.Author.Tests.{ne_eqb}
 use Rattle.rules.specs.Colours.{at}
 use Rattle.rules.specs.Answers.{number}

@@ -1,7 +1,6 @@
 use mathlib.Core.Path.{◌≡◌, refl, sym, ◌∙◌, subst}
-use Prim.Native.Nat.{ℕ, ◌≤◌, ◌-◌}
+use Prim.Native.Nat.{ℕ, ◌≤◌}
 use native.Mathlib.Omega.{arith}
-use borrow.Author.Rules.{rules}
 use lib.ListN.{length, length-set}
 use Rattle.rules.specs.Sizes.{max_area}
 use Rattle.rules.specs.Lists.{pick, below}

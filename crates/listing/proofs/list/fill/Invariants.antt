@@ -1,15 +1,10 @@
 -- `fill`: after n turns the points below n that are in the list stand at the front. The measure is what is left of the points.
-use mathlib.Core.Path.{◌≡◌, refl, sym, ◌∙◌, subst}
-use Prim.Native.Nat.{ℕ, ◌≤◌, ◌-◌}
-use native.Mathlib.Omega.{arith}
-use borrow.Author.Rules.{rules}
-use lib.ListN.{length, length-set}
-use Rattle.rules.specs.Sizes.{max_area}
+use mathlib.Core.Path.{◌≡◌}
+use Prim.Native.Nat.{◌≤◌, ◌-◌}
+use lib.ListN.{length}
 use Rattle.rules.specs.Lists.{pick, below}
-use Rattle.rules.specs.Points.{area}
 use Rattle.viewing.specs.Seen.{passed}
 use Rattle.viewing.specs.Front.{Front}
-use Rattle.viewing.specs.Laws.Front.{front-pick-none, front-pick, front-skip}
 use Rattle.listing.proofs.list.fill.Given as goal
 
 abbrev pub invariant-loop-point : goal.invariant-loop-point

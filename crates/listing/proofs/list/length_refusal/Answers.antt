@@ -4,7 +4,6 @@ use native.Mathlib.Omega.{arith}
 use Rattle.rules.specs.Points.{area}
 use Rattle.rules.specs.Answers.{number, refuse}
 use Rattle.listing.specs.Lists.{length_answer}
-use borrow.Author.Rules.{rules}
 use Rattle.listing.proofs.list.length_refusal.Goals as goal
 
 pub returns-then-length-area : goal.returns-then-length-area

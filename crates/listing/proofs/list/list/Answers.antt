@@ -2,7 +2,6 @@
 use Rattle.rules.proofs.Laws.Lists.{not-both}
 use Rattle.listing.specs.Lists.{Lists}
 use Rattle.listing.specs.Laws.Answers.{answered-damaged, answered-true}
-use borrow.Author.Rules.{rules}
 use Rattle.listing.proofs.list.list.Goals as goal
 
 pub list_true-requires : goal.list_true-requires

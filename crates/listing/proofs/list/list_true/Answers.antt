@@ -14,7 +14,6 @@ use Rattle.viewing.specs.Front.{Front}
 use Rattle.listing.specs.Laws.Seen.{passed-listed, view-seen}
 use Rattle.rules.proofs.Laws.Answers.{accepts-zero}
 use Rattle.listing.specs.Laws.Answers.{accepted-list, left-refused, left-filled}
-use borrow.Author.Rules.{rules}
 use Rattle.listing.proofs.list.list_true.Goals.{After-view_of-view}
 use Rattle.listing.proofs.list.list_true.Goals as goal
 

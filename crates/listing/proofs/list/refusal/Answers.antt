@@ -8,7 +8,6 @@ use Rattle.rules.specs.Answers.{OffBoard, BadColour, number}
 use Rattle.listing.specs.Lists.{length_answer}
 use Rattle.rules.proofs.Laws.Answers.{accepts-zero, refuses-other, then-refused, then-accepted, refuses, passes, refused-then, passed_then}
 use Rattle.rules.proofs.Laws.Calls.{off-not-on}
-use borrow.Author.Rules.{rules}
 use Rattle.listing.proofs.list.refusal.Goals as goal
 
 pub returns-then-short-ne-ACCEPTED : goal.returns-then-short-ne-ACCEPTED

@@ -2,7 +2,6 @@
 use native.Mathlib.Omega.{arith}
 use Rattle.sets.specs.Laws.Liberties.{number-le}
 use Rattle.looking.specs.Seen.{chain_seen}
-use borrow.Author.Rules.{rules}
 use Rattle.looking.proofs.look.chain_seen.Goals as goal
 
 pub overflow_cast-result : goal.overflow_cast-result

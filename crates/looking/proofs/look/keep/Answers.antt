@@ -1,6 +1,5 @@
 -- `keep`: one colour is written; what is known follows the two counts.
 use mathlib.Core.Path.{refl}
-use borrow.Author.Rules.{rules}
 use borrow.Author.Tests.{eq-eqb, ne_eqb}
 use Rattle.looking.specs.Seen.{known_after}
 use Rattle.looking.proofs.look.keep.Goals as goal

@@ -1,6 +1,5 @@
 use mathlib.Core.Path.{◌≡◌, refl, ap, ◌∙◌}
-use mathlib.Core.Logic.{⊎_elim}
-use Prim.Native.Nat.{◌-◌, ◌<◌}
+use Prim.Native.Nat.{◌<◌}
 use native.Mathlib.Omega.{arith}
 use lib.ListN.{length, get_or, get_or-eq_default}
 use borrow.Author.Rules.{rules}
@@ -13,10 +12,10 @@ use Rattle.board.specs.Laws.Board.{area-fits, length-colours}
 use Rattle.history.specs.Packing.{on_largest}
 use Rattle.legality.specs.declared.near.Beside.{Beside}
 use Rattle.legality.specs.Near.{in_four, near_of}
-use Rattle.looking.specs.Seen.{chain_seen, Partly}
+use Rattle.looking.specs.Seen.{chain_seen}
 use Rattle.looking.specs.Laws.Sight.{one-read}
 use Rattle.looking.specs.Laws.Table.{liberties_at, stones_at, chain-read, nothing_read, shade-read, colour-told, liberties-told, stones-told}
-use Rattle.looking.proofs.Sides.{Seeing, more, all}
+use Rattle.looking.proofs.Sides.{more, all}
 use Rattle.looking.proofs.Points.{whole}
 use Rattle.looking.proofs.look.look_at.Goals.{After-index-q, After-neighbours-around, In-loop-p, In-loop-side, Joined-owner-lt-SLOTS, then-owner-lt-SLOTS, else-owner-lt-SLOTS}
 use Rattle.looking.proofs.look.look_at.Goals as goal

@@ -1,6 +1,6 @@
 use mathlib.Core.Path.{◌≡◌, refl, ap}
 use mathlib.Core.List.{List}
-use Prim.Native.Nat.{ℕ, ◌-◌, ◌<◌}
+use Prim.Native.Nat.{ℕ, ◌<◌}
 use native.Mathlib.Omega.{arith}
 use lib.ListN.{length, get_or}
 use Rattle.rules.specs.Sizes.{max_area}
@@ -9,7 +9,7 @@ use Rattle.points.specs.Laws.Around.{around-on}
 use Rattle.legality.specs.Near.{in_four}
 use Rattle.looking.specs.Seen.{near_in}
 use borrow.Author.Rules.{rules}
-use Rattle.looking.proofs.Sides.{Seeing, more, all}
+use Rattle.looking.proofs.Sides.{more, all}
 use Rattle.looking.proofs.look.near.Invariants.{at-point}
 use Rattle.looking.proofs.look.near.Goals.{After-index-q, After-neighbours-around, In-loop-i}
 use Rattle.looking.proofs.look.near.Goals as goal

@@ -1,16 +1,8 @@
 -- `looking::look::near`: after i turns the first i places hold what is shown at the first i points beside. The measure is how many points are left.
-use mathlib.Core.Path.{◌≡◌, refl, ap}
 use mathlib.Core.List.{List}
-use Prim.Native.Nat.{ℕ, ◌-◌, ◌<◌}
-use native.Mathlib.Omega.{arith}
-use lib.ListN.{length, get_or}
-use Rattle.rules.specs.Sizes.{max_area}
-use Rattle.rules.specs.Points.{area}
-use Rattle.points.specs.Laws.Around.{around-on}
-use Rattle.legality.specs.Near.{in_four}
-use Rattle.looking.specs.Seen.{near_in}
-use borrow.Author.Rules.{rules}
-use Rattle.looking.proofs.Sides.{Seeing, more, all}
+use Prim.Native.Nat.{ℕ, ◌-◌}
+use lib.ListN.{get_or}
+use Rattle.looking.proofs.Sides.{Seeing}
 use Rattle.looking.proofs.look.near.Given as goal
 
 -- what an array shows at a point

@@ -1,14 +1,11 @@
 use mathlib.Core.Path.{◌≡◌, sym, ap, ◌∙◌, subst}
 use mathlib.Core.List.{List}
-use mathlib.Core.Logic.{⊎_elim}
-use Prim.Native.Nat.{ℕ, ◌-◌, ◌≤◌, ◌<◌}
+use Prim.Native.Nat.{ℕ, ◌<◌}
 use native.Mathlib.Omega.{arith}
-use borrow.Author.Rules.{rules}
 use Rattle.rules.specs.Sizes.{max_area, slots}
 use Rattle.rules.specs.Lists.{tabulate}
 use Rattle.rules.specs.Colours.{at}
 use Rattle.chains.specs.declared.group.Chain.{Chain}
-use Rattle.board.specs.declared.goban.Board.{Board}
 use Rattle.board.specs.Board.{owner, chain_in, colours_of}
 use Rattle.history.specs.Packing.{on_largest}
 use Rattle.legality.specs.declared.near.Beside.{Beside}
@@ -16,7 +13,6 @@ use Rattle.looking.specs.Seen.{chain_seen, seen_of, Counted}
 use Rattle.looking.specs.Laws.Table.{liberties_at, stones_at, owner-read, chain-read, nothing_read, colour-told, liberties-told, stones-told}
 use Rattle.looking.specs.Laws.Seen.{first_counted}
 use Rattle.looking.proofs.Points.{Upto, none_yet, more, whole}
-use Rattle.looking.proofs.look.seen_of.Invariants.{Seeing}
 use Rattle.looking.proofs.look.seen_of.Goals.{Joined-owner-lt-SLOTS, then-owner-lt-SLOTS, else-owner-lt-SLOTS}
 use Rattle.looking.proofs.look.seen_of.Goals as goal
 

@@ -4,7 +4,6 @@ use Prim.Native.Nat.{ℕ, ◌<◌}
 use native.Mathlib.Omega.{arith}
 use lib.ListN.{get_or}
 use Rattle.looking.specs.Seen.{chain_seen}
-use borrow.Author.Rules.{rules}
 use Rattle.looking.proofs.look.stone_seen.Goals as goal
 
 pub bounds-liberties-origin : goal.bounds-liberties-origin

@@ -1,7 +1,6 @@
 -- `making::make::is_size`: each side by `is_side`.
 use mathlib.Core.Path.{sym, ap, ◌∙◌}
 use mathlib.Core.Bool.{Bool, ◌&&◌}
-use borrow.Author.Rules.{rules}
 use Rattle.rules.specs.Calls.{side_ok}
 use Rattle.making.proofs.make.is_size.Goals as goal
 

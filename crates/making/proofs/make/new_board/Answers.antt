@@ -1,7 +1,5 @@
 -- `making::make::new_board`: by the test of the sizes, the new board of that size, or what stands for a refused one.
 use mathlib.Core.Path.{refl, sym, ◌∙◌}
-use borrow.Author.Rules.{rules}
-use borrow.Author.Tests.{not-true, not-false}
 use Rattle.making.specs.Laws.NewBoard.{size-made, size-refused}
 use Rattle.making.proofs.make.new_board.Goals as goal
 

@@ -1,6 +1,6 @@
 use mathlib.Core.Path.{◌≡◌, refl, sym, ap, ap₂, ◌∙◌}
 use mathlib.Core.Bool.{◌&&◌}
-use Prim.Native.Nat.{ℕ, ◌≤◌, ◌-◌}
+use Prim.Native.Nat.{ℕ}
 use native.Mathlib.Omega.{arith}
 use lib.Dec.{leb}
 use Rattle.rules.specs.Sizes.{slots}
@@ -9,7 +9,6 @@ use Rattle.rules.specs.Points.{area}
 use Rattle.rules.proofs.Laws.Lists.{get_d_default}
 use Rattle.owning.specs.Owners.{owner_in}
 use Rattle.owning.specs.Laws.Lists.{all-below-next}
-use borrow.Author.Rules.{rules}
 use Rattle.owning.proofs.owners.all_found.Goals as goal
 
 pub loop-point-init : goal.loop-point-init

@@ -1,16 +1,10 @@
 -- `all_found` meets its contract: what is good so far is what all points passed say. The measure is what is left.
-use mathlib.Core.Path.{◌≡◌, refl, sym, ap, ap₂, ◌∙◌}
-use mathlib.Core.Bool.{◌&&◌}
-use Prim.Native.Nat.{ℕ, ◌≤◌, ◌-◌}
-use native.Mathlib.Omega.{arith}
+use mathlib.Core.Path.{◌≡◌}
+use Prim.Native.Nat.{◌≤◌, ◌-◌}
 use lib.Dec.{leb}
 use Rattle.rules.specs.Sizes.{slots}
 use Rattle.rules.specs.Lists.{all, below}
-use Rattle.rules.specs.Points.{area}
-use Rattle.rules.proofs.Laws.Lists.{get_d_default}
 use Rattle.owning.specs.Owners.{owner_in}
-use Rattle.owning.specs.Laws.Lists.{all-below-next}
-use borrow.Author.Rules.{rules}
 use Rattle.owning.proofs.owners.all_found.Given as goal
 
 abbrev pub invariant-loop-point : goal.invariant-loop-point

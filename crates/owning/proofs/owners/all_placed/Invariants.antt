@@ -1,20 +1,10 @@
 -- `all_placed` meets its contract: what is good so far is what all points passed say, first on the board and then beyond it. The measures
 -- are what is left.
-use mathlib.Core.Path.{◌≡◌, refl, sym, ap, ap₂, ◌∙◌}
-use mathlib.Core.Bool.{Bool, cond, ◌&&◌}
-use Prim.Native.Nat.{ℕ, ◌≤◌, ◌<◌, ◌-◌}
-use native.Mathlib.Omega.{arith}
-use lib.Dec.{eqb, leb}
-use lib.ListN.{length, get_or}
-use mathlib.Core.List.{List}
-use borrow.Author.Tests.{lt-ltb, le-ltb}
-use Rattle.rules.specs.Sizes.{max_area, slots}
+use mathlib.Core.Path.{◌≡◌}
+use Prim.Native.Nat.{◌≤◌, ◌-◌}
+use Rattle.rules.specs.Sizes.{max_area}
 use Rattle.rules.specs.Lists.{all, below}
-use Rattle.rules.specs.Points.{area}
-use Rattle.rules.proofs.Laws.Lists.{get_d_default}
 use Rattle.owning.specs.Owners.{owner_in, placed}
-use Rattle.owning.specs.Laws.Lists.{all-below-next}
-use borrow.Author.Rules.{rules}
 use Rattle.owning.proofs.owners.all_placed.Given as goal
 
 abbrev pub invariant-loop-point : goal.invariant-loop-point

@@ -6,7 +6,6 @@ use lib.Dec.{eqb}
 use Rattle.rules.specs.Sizes.{slots}
 use Rattle.rules.proofs.Laws.Lists.{get_d_default}
 use Rattle.owning.specs.Owners.{owner_in, apart}
-use borrow.Author.Rules.{rules}
 use Rattle.owning.proofs.owners.apart.Goals as goal
 
 pub returns : goal.returns

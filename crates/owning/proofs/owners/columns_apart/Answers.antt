@@ -1,6 +1,6 @@
 use mathlib.Core.Path.{◌≡◌, sym, ap, ap₂, ◌∙◌}
 use mathlib.Core.Bool.{Bool, true, ◌&&◌, ◌||◌}
-use Prim.Native.Nat.{ℕ, ◌≤◌, ◌<◌, ◌-◌}
+use Prim.Native.Nat.{ℕ, ◌<◌, ◌-◌}
 use native.Mathlib.Omega.{arith}
 use borrow.Author.Tests.{lt-ltb, le-ltb}
 use Rattle.rules.specs.Sizes.{max_area}
@@ -9,7 +9,6 @@ use Rattle.rules.specs.Points.{area}
 use Rattle.rules.proofs.Laws.Lists.{or_left}
 use Rattle.owning.specs.Owners.{owner_in, apart, column_apart}
 use Rattle.owning.specs.Laws.Lists.{all-below, all-below-next}
-use borrow.Author.Rules.{rules}
 use Rattle.owning.proofs.owners.columns_apart.Goals as goal
 
 -- the first row

@@ -5,7 +5,6 @@ use lib.ListN.{get_or-eq_default}
 use Rattle.rules.specs.Sizes.{slots}
 use Rattle.rules.proofs.Laws.Lists.{get_d_default}
 use Rattle.owning.specs.Owners.{owner_in}
-use borrow.Author.Rules.{rules}
 use Rattle.owning.proofs.owners.owner_at.Goals as goal
 
 pub returns-then-point-ge-MAX_AREA : goal.returns-then-point-ge-MAX_AREA

@@ -1,6 +1,6 @@
 use mathlib.Core.Path.{◌≡◌, sym, ap, ap₂, ◌∙◌}
 use mathlib.Core.Bool.{Bool, true, ◌&&◌, ◌||◌}
-use Prim.Native.Nat.{ℕ, ◌≤◌, ◌<◌, ◌-◌}
+use Prim.Native.Nat.{ℕ, ◌<◌, ◌-◌}
 use native.Mathlib.Nat.{zero-mod}
 use native.Mathlib.Omega.{arith}
 use borrow.Author.Tests.{eq-eqb}
@@ -11,7 +11,6 @@ use Rattle.rules.specs.Flood.{marked}
 use Rattle.rules.proofs.Laws.Lists.{or_left}
 use Rattle.owning.specs.Owners.{owner_in, apart, row_apart}
 use Rattle.owning.specs.Laws.Lists.{all-below-next}
-use borrow.Author.Rules.{rules}
 use Rattle.owning.proofs.owners.rows_apart.Goals as goal
 
 -- the first point begins a row

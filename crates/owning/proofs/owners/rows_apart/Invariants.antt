@@ -1,18 +1,8 @@
 -- `rows_apart` meets its contract: what is good so far is what all points passed say; the first begins a row. The measure is what is left.
-use mathlib.Core.Path.{◌≡◌, sym, ap, ap₂, ◌∙◌}
-use mathlib.Core.Bool.{Bool, true, ◌&&◌, ◌||◌}
-use Prim.Native.Nat.{ℕ, ◌≤◌, ◌<◌, ◌-◌}
-use native.Mathlib.Nat.{zero-mod}
-use native.Mathlib.Omega.{arith}
-use borrow.Author.Tests.{eq-eqb}
-use Rattle.rules.specs.Sizes.{max_area}
+use mathlib.Core.Path.{◌≡◌}
+use Prim.Native.Nat.{◌≤◌, ◌<◌, ◌-◌}
 use Rattle.rules.specs.Lists.{all, below}
-use Rattle.rules.specs.Points.{area, column}
-use Rattle.rules.specs.Flood.{marked}
-use Rattle.rules.proofs.Laws.Lists.{or_left}
-use Rattle.owning.specs.Owners.{owner_in, apart, row_apart}
-use Rattle.owning.specs.Laws.Lists.{all-below-next}
-use borrow.Author.Rules.{rules}
+use Rattle.owning.specs.Owners.{owner_in, row_apart}
 use Rattle.owning.proofs.owners.rows_apart.Given as goal
 
 abbrev pub invariant-loop-point : goal.invariant-loop-point

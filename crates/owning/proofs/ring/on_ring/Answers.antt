@@ -1,7 +1,6 @@
 -- `on_ring` meets its contract: the code and the definition make the same tests, on the same owner.
 use mathlib.Core.Path.{sym}
 use borrow.Author.Tests.{eq-eqb, ne_eqb}
-use borrow.Author.Rules.{rules}
 use Rattle.owning.proofs.ring.on_ring.Goals as goal
 
 pub returns-then-owner_at-slot : goal.returns-then-owner_at-slot

@@ -1,23 +1,19 @@
 use mathlib.Core.Path.{◌≡◌, sym, ap, ap₂, ◌∙◌}
 use mathlib.Core.Bool.{Bool, true, ◌&&◌, ◌||◌}
-use mathlib.Core.List.{List}
 use mathlib.Core.Logic.{◌≢◌}
-use Prim.Native.Nat.{ℕ, ◌+◌, ◌≤◌, ◌<◌, ◌-◌}
+use Prim.Native.Nat.{ℕ, ◌+◌, ◌<◌, ◌-◌}
 use native.Mathlib.Numerals.{add-one}
 use native.Mathlib.Omega.{arith}
 use lib.Dec.{eqb, ltb}
 use lib.ListN.{get_or}
 use borrow.Author.Count.{below_none, below_more}
-use borrow.Author.Tests.{not-true, not-false, eqb-true, eq-eqb, ne_eqb}
+use borrow.Author.Tests.{eqb-true, eq-eqb, ne_eqb}
 use Rattle.rules.specs.Sizes.{max_area, slots}
 use Rattle.rules.specs.Lists.{all, below}
 use Rattle.rules.proofs.Laws.Lists.{and_left, get_or-within}
-use Rattle.chains.specs.declared.group.Chain.{Chain}
 use Rattle.chains.specs.Walk.{stepped}
 use Rattle.owning.specs.Owners.{owner_in, on_ring, ring}
 use Rattle.owning.specs.Laws.Lists.{all-below, all-fails-below, and-fails, then-fails}
-use borrow.Author.Rules.{rules}
-use Rattle.owning.proofs.ring.ring_good.Invariants.{Ringing}
 use Rattle.owning.proofs.ring.ring_good.Goals.{After-loop-links, After-on_ring, Else-not-on_ring}
 use Rattle.owning.proofs.ring.ring_good.Goals as goal
 

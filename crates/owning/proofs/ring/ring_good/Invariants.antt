@@ -1,24 +1,12 @@
 -- `ring_good` meets its contract: after some links the stones passed are on the ring, and each way out has found one test to fail, or the
 -- last to decide. The measure is what is left of the count.
-use mathlib.Core.Path.{◌≡◌, sym, ap, ap₂, ◌∙◌}
-use mathlib.Core.Bool.{Bool, true, ◌&&◌, ◌||◌}
+use mathlib.Core.Path.{◌≡◌}
+use mathlib.Core.Bool.{true}
 use mathlib.Core.List.{List}
-use mathlib.Core.Logic.{◌≢◌}
-use Prim.Native.Nat.{ℕ, ◌+◌, ◌≤◌, ◌<◌, ◌-◌}
-use native.Mathlib.Numerals.{add-one}
-use native.Mathlib.Omega.{arith}
-use lib.Dec.{eqb, ltb}
-use lib.ListN.{get_or}
-use borrow.Author.Count.{below_none, below_more}
-use borrow.Author.Tests.{not-true, not-false, eqb-true, eq-eqb, ne_eqb}
-use Rattle.rules.specs.Sizes.{max_area, slots}
-use Rattle.rules.specs.Lists.{all, below}
-use Rattle.rules.proofs.Laws.Lists.{and_left, get_or-within}
+use Prim.Native.Nat.{ℕ, ◌≤◌, ◌<◌, ◌-◌}
 use Rattle.chains.specs.declared.group.Chain.{Chain}
 use Rattle.chains.specs.Walk.{stepped}
-use Rattle.owning.specs.Owners.{owner_in, on_ring, ring}
-use Rattle.owning.specs.Laws.Lists.{all-below, all-fails-below, and-fails, then-fails}
-use borrow.Author.Rules.{rules}
+use Rattle.owning.specs.Owners.{owner_in, on_ring}
 use Rattle.owning.proofs.ring.ring_good.Given as goal
 
 -- after some links: where the walk is and was, and that it was on the ring

@@ -27,8 +27,11 @@ slice_bounds-place-end c =
 
 pub place-requires : goal.place-requires
 place-requires c =
-    record { placing = subst (λ (n : ℕ). Placing c.args.board (take n c.mark-marked.result.colours)) (sym c.area-end.ensures)
-          (handicap-placing _ c.requires _ _ c.mark-marked.ensures c.if-marked-ne-ACCEPTED.false); numbers = c.table-numbers.ensures }
+    record {
+      placing = subst (λ (n : ℕ). Placing c.args.board (take n c.mark-marked.result.colours)) (sym c.area-end.ensures)
+          (handicap-placing _ c.requires _ _ c.mark-marked.ensures c.if-marked-ne-ACCEPTED.false);
+      numbers = c.table-numbers.ensures;
+    }
 
 pub returns : goal.returns
 returns c =

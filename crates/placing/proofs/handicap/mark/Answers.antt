@@ -1,15 +1,13 @@
 use mathlib.Core.Path.{◌≡◌, refl, sym, ap, ◌∙◌, subst}
 use mathlib.Core.Bool.{true, ◌&&◌}
-use Prim.Native.Nat.{ℕ, ◌+◌, ◌≤◌, ◌<◌, ◌-◌, ◌/◌, ◌%◌}
+use Prim.Native.Nat.{ℕ, ◌+◌, ◌<◌, ◌/◌, ◌%◌}
 use native.Mathlib.Omega.{arith}
 use lib.Dec.{ltb}
-use lib.ListN.{length, get_or, set}
-use borrow.Author.Tests.{not-true, not-false}
+use lib.ListN.{get_or, set}
 use Rattle.rules.specs.Colours.{black}
 use Rattle.rules.specs.Points.{area}
 use Rattle.rules.specs.Answers.{OffBoard, PointNotEmpty, number, accepts}
 use Rattle.board.specs.Laws.Board.{area-fits}
-use borrow.Author.Rules.{rules}
 use Rattle.placing.specs.Laws.Spots.{Marking, marking-none, marking-off, marking-on, marking-repeat, marking-next, not-inside, marked_refused, marked_all}
 use Rattle.placing.proofs.handicap.mark.Goals.{After-two_to_1dim-point, Else-not-is_coord_valid}
 use Rattle.placing.proofs.handicap.mark.Goals as goal

@@ -1,11 +1,7 @@
 use mathlib.Core.Path.{refl, sym, subst}
-use mathlib.Core.Logic.{⊎_elim}
-use borrow.Author.Rules.{rules}
-use Prim.Native.Nat.{◌≤◌, ◌-◌}
 use native.Mathlib.Omega.{arith}
-use lib.ListN.{length}
 use Rattle.placing.specs.Placing.{Stands, Adding}
-use Rattle.placing.specs.Laws.SoFar.{SoFar, so-far-none, so-far-on, so-far-next, so-far-stuck, so-far-all, stands-free}
+use Rattle.placing.specs.Laws.SoFar.{so-far-none, so-far-on, so-far-next, so-far-stuck, so-far-all, stands-free}
 use Rattle.placing.specs.Laws.Added.{added_none, added-laying, added-stuck, added-stone}
 use Rattle.rules.proofs.Laws.Answers.{refuses, passes}
 use Rattle.placing.specs.Laws.Answers.{outcome-refused, outcome-accepted, outcome-as}
@@ -51,9 +47,9 @@ loop-point-preserved c =
       omega arith,
       so-far-next _ _ _ c.requires.placing.covers l.point l.result l.invariant.1 (omega arith) _
           (elim c.if-colour-ne-EMPTY.branch [
-            then-colour-ne-EMPTY+else-chokes w ↦
-          subst (Stands _ _ _) (sym w.result-is) (added-stone _ _ _ (adding (goal.at.loop-point-preserved c).After-shared_slice_known-in-loop-point-1) w.if-colour-ne-EMPTY.true _ w.lay-laid.ensures _ w.chokes.ensures w.if-chokes.false)
-          | else-colour-ne-EMPTY w ↦ subst (Stands _ _ _) (sym w.result-is) (added_none _ _ _ (adding (goal.at.loop-point-preserved c).After-shared_slice_known-in-loop-point-1) w.if-colour-ne-EMPTY.false)
+            | then-colour-ne-EMPTY+else-chokes w ↦
+                subst (Stands _ _ _) (sym w.result-is) (added-stone _ _ _ (adding (goal.at.loop-point-preserved c).After-shared_slice_known-in-loop-point-1) w.if-colour-ne-EMPTY.true _ w.lay-laid.ensures _ w.chokes.ensures w.if-chokes.false)
+            | else-colour-ne-EMPTY w ↦ subst (Stands _ _ _) (sym w.result-is) (added_none _ _ _ (adding (goal.at.loop-point-preserved c).After-shared_slice_known-in-loop-point-1) w.if-colour-ne-EMPTY.false)
           ]),
     )
 

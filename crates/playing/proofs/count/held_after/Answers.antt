@@ -1,6 +1,5 @@
 -- The mover's own stones are those lost, the others those taken.
 use borrow.Author.Tests.{eq-eqb, ne_eqb}
-use borrow.Author.Rules.{rules}
 use Rattle.playing.specs.After.{black_gone, white_gone}
 use Rattle.playing.proofs.count.held_after.Goals as goal
 

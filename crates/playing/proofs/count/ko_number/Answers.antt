@@ -2,7 +2,6 @@
 use mathlib.Core.Path.{refl, sym, ap, ◌∙◌, subst}
 use native.Mathlib.Omega.{arith}
 use Prim.Native.Nat.{◌<◌}
-use borrow.Author.Rules.{rules}
 use Rattle.points.specs.Place.{place_of, Within}
 use Rattle.game.specs.View.{no_point}
 use Rattle.game.specs.Laws.View.{ko-none, ko-some}

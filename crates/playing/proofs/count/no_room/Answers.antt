@@ -3,7 +3,6 @@ use mathlib.Core.Path.{sym, subst}
 use mathlib.Core.Bool.{not}
 use Prim.Native.Nat.{ℕ, ◌<◌}
 use borrow.Author.Tests.{lt-leb}
-use borrow.Author.Rules.{rules}
 use Rattle.history.specs.History.{among}
 use Rattle.playing.specs.Laws.Count.{and_no}
 use Rattle.playing.proofs.count.no_room.Goals as goal

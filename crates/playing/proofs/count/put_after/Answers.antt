@@ -1,5 +1,4 @@
 -- The mover is Black, or White.
-use borrow.Author.Rules.{rules}
 use Rattle.playing.specs.Laws.Count.{put-black, put-white}
 use Rattle.playing.proofs.count.put_after.Goals as goal
 

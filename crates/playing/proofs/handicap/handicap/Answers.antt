@@ -2,7 +2,6 @@
 use native.Mathlib.Omega.{arith}
 use Prim.Native.Nat.{◌≤◌}
 use lib.ListN.{length}
-use borrow.Author.Tests.{not-true, not-false}
 use Rattle.rules.specs.Sizes.{max_area}
 use Rattle.rules.specs.Answers.{number}
 use Rattle.rules.proofs.Laws.Lists.{not-both}
@@ -14,7 +13,6 @@ use Rattle.game.specs.Laws.Promise.{alone-damaged}
 use Rattle.playing.specs.After.{handicap_given}
 use Rattle.playing.specs.Laws.Count.{true-few}
 use Rattle.playing.specs.Laws.Handicap.{spots-length, handicap-late, start-bare, handicap-refused, spots-few, handicap-laid}
-use borrow.Author.Rules.{rules}
 use Rattle.playing.proofs.handicap.handicap.Goals.{After-numbers_fit, Else-not-numbers_fit, Else-placed-ne-ACCEPTED}
 use Rattle.playing.proofs.handicap.handicap.Goals as goal
 

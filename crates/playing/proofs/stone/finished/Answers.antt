@@ -3,7 +3,6 @@ use mathlib.Core.Bool.{Bool}
 use mathlib.Core.List.{List}
 use mathlib.Core.Path.{◌≡◌, refl, sym, ap, ◌∙◌}
 use lib.ListN.{length}
-use borrow.Author.Rules.{rules}
 use Rattle.rules.specs.Answers.{number}
 use Rattle.rules.specs.Records.{record_of, capacity, full}
 use Rattle.rules.proofs.Laws.Records.{length-record}

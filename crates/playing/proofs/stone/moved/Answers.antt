@@ -1,7 +1,6 @@
 -- Each number is what its function ensures, for the player whom the turn's byte names.
 use mathlib.Core.Path.{refl, sym, ap, ◌∙◌, subst}
 use Prim.Native.Nat.{ℕ}
-use borrow.Author.Rules.{rules}
 use Rattle.rules.specs.Colours.{other}
 use Rattle.rules.specs.Answers.{number}
 use Rattle.rules.specs.Game.{Player}

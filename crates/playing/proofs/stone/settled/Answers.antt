@@ -1,7 +1,6 @@
 -- The board that is laid is the rules' resulting one, so that its record decides.
 use mathlib.Core.Path.{◌≡◌, refl, ap, ◌∙◌}
 use lib.ListN.{length}
-use borrow.Author.Rules.{rules}
 use Rattle.rules.specs.Records.{record_of, capacity}
 use Rattle.rules.proofs.Laws.Lists.{not-both}
 use Rattle.rules.proofs.Laws.Records.{length-record}
@@ -18,8 +17,11 @@ unfolding game_of
 lay-laid-requires c =
     let a = c.args in
     let is = c.requires.shown in
-    let w = c.requires.waits in record { laying = laying (game_of a.board a.clock) a.history.now c.requires.row c.requires.column is.state is.room w.told w.its _ refl w.passes
-          is.sees.point c.player_of.ensures; numbers = c.table-numbers.ensures }
+    let w = c.requires.waits in record {
+      laying = laying (game_of a.board a.clock) a.history.now c.requires.row c.requires.column is.state is.room w.told w.its _ refl w.passes
+          is.sees.point c.player_of.ensures;
+      numbers = c.table-numbers.ensures;
+    }
 
 pub look_at-seen-requires : goal.look_at-seen-requires
 look_at-seen-requires c = record { true_board = c.lay-laid.ensures.board; partly = unread _ }

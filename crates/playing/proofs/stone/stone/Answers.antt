@@ -1,16 +1,12 @@
 -- The state is damaged, the tests refuse, or the stone is laid and the numbers are changed.
 use mathlib.Core.Bool.{true}
 use mathlib.Core.List.{List}
-use mathlib.Core.Logic.{⊎_elim}
-use mathlib.Core.Path.{◌≡◌, refl, sym, ap, ◌∙◌, subst}
+use mathlib.Core.Path.{◌≡◌, refl, sym, subst}
 use Prim.Native.Nat.{ℕ}
 use lib.ListN.{length}
-use borrow.Author.Tests.{not-true, not-false}
-use borrow.Author.Rules.{rules}
 use Rattle.rules.specs.Answers.{number}
 use Rattle.rules.specs.Calls.{stone}
 use Rattle.rules.proofs.Laws.Lists.{not-both}
-use Rattle.rules.proofs.Laws.Records.{bytes_after-length}
 use Rattle.looking.specs.Laws.Sight.{unread}
 use Rattle.game.specs.declared.state.Game.{Game}
 use Rattle.game.specs.declared.clock.Clock.{Clock}
@@ -21,7 +17,7 @@ use Rattle.game.specs.Laws.Judge.{decides-with}
 use Rattle.game.specs.Laws.View.{game-whole}
 use Rattle.playing.specs.declared.stone.Turn.{Turn}
 use Rattle.playing.specs.Promise.{CalledTrue}
-use Rattle.playing.specs.Turn.{Granted, Tested, Shown, FirstTested}
+use Rattle.playing.specs.Turn.{Tested, Shown, FirstTested}
 use Rattle.playing.specs.After.{Moving, Moved}
 use Rattle.playing.specs.Laws.Promise.{called-damaged, called-true}
 use Rattle.playing.specs.Laws.Stone.{shown-ready, stone-moving, stone-called}
@@ -92,10 +88,10 @@ tests : (c : Joined-turn) →
 tests c = let whole_here : let g = c.args.game in game_of g.board c.clock_of-clock.result ≡ g = let g = c.args.game in game-whole g g.board c.clock_of-clock.result refl c.clock_of-clock.ensures in let judge_here : let a = c.args in Decides c.numbers_fit_with-sound.result (TrueState a.game × RoomIn a.game (length a.history.now)) = decides-with c.clock_of-clock.ensures (c.judged-found.ensures.sound, (c.judged-found.ensures.complete, (c.judged-found.ensures.blacks, c.judged-found.ensures.whites))) _ c.numbers_fit_with-sound.ensures in let true-state_here : let a = c.args in TrueState a.game × RoomIn a.game (length a.history.now) = (judge_here).sound (c.if-not-sound.false) in let shown_here : let a = c.args in Shown a.game.board c.look_at-sight.result c.look_at-sight.new.colours c.clock_of-clock.result (length a.history.now) a.row a.column = let a = c.args in let is = subst (λ (g : Game). TrueState g × RoomIn g (length a.history.now)) (sym (whole_here)) (true-state_here) in record { state = is.0; room = is.1; sees = c.look_at-sight.ensures } in let first_here : let a = c.args in FirstTested (game_of a.game.board c.clock_of-clock.result) a.history.now a.row a.column c.tested-turn.result c.tested-turn.new.history = c.tested-turn.ensures c.args.game.board (shown_here) in let seen-again_here : c.tested-turn.result.undecided ≡ true → let a = c.args in Shown a.game.board c.look_at-sight.result c.look_at-sight.new.colours c.clock_of-clock.result (length c.tested-turn.new.history) a.row a.column = λ y. (let a = c.args in subst (λ (bytes : List ℕ). Shown a.game.board c.look_at-sight.result c.look_at-sight.new.colours c.clock_of-clock.result (length bytes) a.row a.column) (sym ((first_here).lent y)) (shown_here)) in
     let a = c.args in
     elim c.if-turn.branch [
-      then-turn w ↦ (
-    let y = w.if-turn.true in
-    tested-same (whole_here) ((first_here).lent y) w.turn-is w.history-is (w.settled-turn.ensures a.row a.column (seen-again_here y) ((first_here).waits y)))
-    | else-turn w ↦ tested-same (whole_here) refl w.turn-is w.history-is ((first_here).decided w.if-turn.false)
+      | then-turn w ↦ (
+          let y = w.if-turn.true in
+          tested-same (whole_here) ((first_here).lent y) w.turn-is w.history-is (w.settled-turn.ensures a.row a.column (seen-again_here y) ((first_here).waits y)))
+      | else-turn w ↦ tested-same (whole_here) refl w.turn-is w.history-is ((first_here).decided w.if-turn.false)
     ]
 
 pub returns-then-turn-ne-ACCEPTED : goal.returns-then-turn-ne-ACCEPTED

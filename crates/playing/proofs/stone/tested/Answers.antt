@@ -1,7 +1,6 @@
 -- The first tests refuse, the records decide, or the last tests do without them.
 use mathlib.Core.Path.{◌≡◌, refl, sym, ap, ◌∙◌}
 use lib.ListN.{length}
-use borrow.Author.Rules.{rules}
 use Rattle.rules.proofs.Laws.Lists.{not-both}
 use Rattle.board.specs.declared.goban.Board.{Board}
 use Rattle.board.specs.Board.{colours_of}

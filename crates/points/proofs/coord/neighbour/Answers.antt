@@ -4,7 +4,6 @@ use mathlib.Core.Option.{none}
 use native.Mathlib.Omega.{arith}
 use lib.ListN.{get_or-eq_default}
 use Rattle.rules.specs.Points.{sides}
-use borrow.Author.Rules.{rules}
 use Rattle.points.proofs.coord.neighbour.Goals as goal
 
 pub returns-in-0 : goal.returns-in-0

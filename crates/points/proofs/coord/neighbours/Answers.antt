@@ -2,7 +2,6 @@
 use mathlib.Core.Path.{◌≡◌}
 use Prim.Native.Nat.{◌<◌}
 use native.Mathlib.Omega.{arith}
-use borrow.Author.Rules.{rules}
 use Rattle.rules.specs.Points.{Shift, back, stay, forth, joined, shifted, towards, sides, neighbours}
 use Rattle.points.proofs.Grid.{spot-below, spot-towards, neighbours-off}
 use Rattle.points.proofs.Around.{holds-none, put_four}

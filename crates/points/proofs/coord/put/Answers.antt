@@ -2,7 +2,6 @@
 use mathlib.Core.Path.{ap, subst}
 use Prim.Native.Nat.{◌^◌}
 use native.Mathlib.Omega.{arith}
-use borrow.Author.Rules.{rules}
 use Rattle.points.specs.Place.{place_of, Within}
 use Rattle.points.proofs.Around.{put-none, put_some}
 use Rattle.points.proofs.coord.put.Goals as goal

@@ -1,5 +1,4 @@
 -- `shifted` meets its contract: the code and the definition make the same tests. Assumes nothing.
-use borrow.Author.Rules.{rules}
 use borrow.Author.Tests.{lt-ltb, le-ltb}
 use Prim.Native.Nat.{◌+◌}
 use native.Mathlib.Omega.{arith}

@@ -1,7 +1,6 @@
 -- `towards` meets its contract: a point on the board has its row and its column there. Assumes nothing.
 use mathlib.Core.Path.{sym}
 use native.Mathlib.Omega.{arith}
-use borrow.Author.Rules.{rules}
 use Rattle.points.specs.Place.{shift_of}
 use Rattle.points.proofs.Grid.{spot-below, spot-towards, towards-off}
 use Rattle.points.proofs.coord.towards.Goals as goal

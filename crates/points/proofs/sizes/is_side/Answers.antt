@@ -1,5 +1,4 @@
 -- `points::sizes::is_side`: the code and the definition make the same tests.
-use borrow.Author.Rules.{rules}
 use borrow.Author.Tests.{lt-ltb, le-ltb}
 use Rattle.rules.specs.Calls.{side_ok}
 use Rattle.points.proofs.sizes.is_side.Goals as goal

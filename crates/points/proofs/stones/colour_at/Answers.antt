@@ -3,7 +3,6 @@ use mathlib.Core.Path.{refl, sym}
 use native.Mathlib.Omega.{arith}
 use Rattle.rules.specs.Colours.{at}
 use Rattle.rules.proofs.Laws.Colours.{at-beyond}
-use borrow.Author.Rules.{rules}
 use Rattle.points.proofs.stones.colour_at.Goals as goal
 
 pub returns-then-point-ge-MAX_AREA : goal.returns-then-point-ge-MAX_AREA

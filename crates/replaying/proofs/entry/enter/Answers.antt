@@ -1,5 +1,4 @@
 -- Each kind's call keeps its promise, and the rules' entry of that kind is that call.
-use borrow.Author.Rules.{rules}
 use Rattle.rules.specs.Answers.{number}
 use Rattle.game.specs.View.{turn_of}
 use Rattle.replaying.specs.Laws.Entry.{enters-pass, enters-black, enters-white, enters-resume, enters-unknown}

@@ -4,7 +4,6 @@ use Rattle.rules.specs.Answers.{number}
 use Rattle.game.specs.Asks as asked
 use Rattle.reporting.specs.Facts.{ko_number, outcome_number, no_facts, facts_of}
 use Rattle.reporting.specs.Laws.Facts.{ko-within, ko-told}
-use borrow.Author.Rules.{rules}
 use Rattle.reporting.proofs.facts.facts_of.Goals as goal
 
 pub ko_number-ko-requires : goal.ko_number-ko-requires

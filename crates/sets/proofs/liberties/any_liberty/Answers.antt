@@ -1,5 +1,5 @@
 use mathlib.Core.Path.{◌≡◌, sym, ap, ap₂, ◌∙◌}
-use Prim.Native.Nat.{ℕ, ◌+◌, ◌*◌, ◌≤◌, ◌-◌}
+use Prim.Native.Nat.{ℕ, ◌+◌, ◌*◌}
 use native.Mathlib.Omega.{arith}
 use lib.Count.{ones}
 use borrow.Author.Rules.{rules}
@@ -26,12 +26,11 @@ returns-then-set-i-ne0 c =
     sym (lt-ltb 0 (number c.args.set) (byte-some c.args.set (came (goal.at.returns-then-set-i-ne0 c).Start) c.loop-i.i (omega arith) c.if-set-i-ne0.true))
 
 pub loop-i-preserved : goal.loop-i-preserved
-loop-i-preserved c =
-    (
-      omega arith,
-      count-byte c.args.set (came (goal.at.loop-i-preserved c).Start) c.loop-i.i
-          ∙ ap₂ (λ (a b : ℕ). a + b) c.loop-i.invariant.1 (ap ones c.if-set-i-ne0.false ∙ ones-zero),
-    )
+loop-i-preserved c = (
+  omega arith,
+  count-byte c.args.set (came (goal.at.loop-i-preserved c).Start) c.loop-i.i
+      ∙ ap₂ (λ (a b : ℕ). a + b) c.loop-i.invariant.1 (ap ones c.if-set-i-ne0.false ∙ ones-zero),
+)
 
 pub returns : goal.returns
 unfolding number

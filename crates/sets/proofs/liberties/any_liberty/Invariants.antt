@@ -1,17 +1,9 @@
 -- `sets::liberties::any_liberty`: no byte passed holds a point, and a byte that is not 0 holds one. The measure is what is left.
-use mathlib.Core.Path.{◌≡◌, sym, ap, ap₂, ◌∙◌}
-use Prim.Native.Nat.{ℕ, ◌+◌, ◌*◌, ◌≤◌, ◌-◌}
-use native.Mathlib.Omega.{arith}
-use lib.Count.{ones}
-use borrow.Author.Rules.{rules}
-use borrow.Author.Tests.{lt-ltb, le-ltb}
+use mathlib.Core.Path.{◌≡◌}
+use Prim.Native.Nat.{◌*◌, ◌≤◌, ◌-◌}
 use Rattle.rules.specs.Sizes.{liberty_bytes}
 use Rattle.rules.specs.Lists.{count, below}
-use Rattle.sets.specs.Liberties.{has, number, LibertySet}
-use Rattle.rules.proofs.Laws.Places.{count-below-zero}
-use Rattle.sets.specs.Laws.Bits.{ones-zero}
-use Rattle.sets.specs.Laws.Liberties.{count-byte, byte-some}
-use Rattle.sets.proofs.Arrays.{array-set}
+use Rattle.sets.specs.Liberties.{has}
 use Rattle.sets.proofs.liberties.any_liberty.Given as goal
 
 abbrev pub invariant-loop-i : goal.invariant-loop-i

@@ -1,6 +1,5 @@
 -- `sets::liberties::count_ones`: a byte has at most 8 bits, so their number fits.
 use native.Mathlib.Omega.{arith}
-use borrow.Author.Rules.{rules}
 use lib.Count.{ones-le}
 use Rattle.sets.proofs.liberties.count_ones.Goals as goal
 

@@ -1,5 +1,4 @@
 -- `sets::liberties::insert_liberty`: one byte is stored, or nothing.
-use borrow.Author.Rules.{rules}
 use Rattle.sets.proofs.Store.{add-stored, add-beyond}
 use Rattle.sets.proofs.liberties.insert_liberty.Goals as goal
 

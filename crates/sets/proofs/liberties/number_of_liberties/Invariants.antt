@@ -1,16 +1,9 @@
 -- `sets::liberties::number_of_liberties`: after i turns the sum is the number of points below 8 i. The measure is what is left.
-use mathlib.Core.Path.{◌≡◌, sym, ap, ap₂, ◌∙◌}
-use Prim.Native.Nat.{ℕ, ◌+◌, ◌*◌, ◌≤◌, ◌-◌}
-use native.Mathlib.Omega.{arith}
-use lib.ListN.{get_or}
-use lib.Count.{ones-le}
-use borrow.Author.Rules.{rules}
+use mathlib.Core.Path.{◌≡◌}
+use Prim.Native.Nat.{◌*◌, ◌≤◌, ◌-◌}
 use Rattle.rules.specs.Sizes.{liberty_bytes}
 use Rattle.rules.specs.Lists.{count, below}
-use Rattle.sets.specs.Liberties.{has, number, LibertySet}
-use Rattle.rules.proofs.Laws.Places.{count-below-zero, count-below-le}
-use Rattle.sets.specs.Laws.Liberties.{count-byte}
-use Rattle.sets.proofs.Arrays.{array-set}
+use Rattle.sets.specs.Liberties.{has}
 use Rattle.sets.proofs.liberties.number_of_liberties.Given as goal
 
 abbrev pub invariant-loop-i : goal.invariant-loop-i

@@ -1,8 +1,6 @@
 -- `board_of`: the judge says which of the two it is.
-use borrow.Author.Tests.{not-true, not-false}
 use Rattle.rules.proofs.Laws.Lists.{not-both}
 use Rattle.showing.specs.Laws.Promise.{shown-damaged, shown-told}
-use borrow.Author.Rules.{rules}
 use Rattle.game.specs.View.{TrueState}
 use Rattle.game.specs.Judge.{Decides}
 use Rattle.game.specs.Laws.Judge.{decides-state}

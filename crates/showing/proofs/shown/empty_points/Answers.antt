@@ -1,9 +1,7 @@
 -- `empty_points`: the judge, then the board's own list.
-use borrow.Author.Tests.{not-true, not-false}
 use Rattle.rules.proofs.Laws.Lists.{not-both}
 use Rattle.listing.specs.Lists.{Lists}
 use Rattle.checking.specs.Laws.Promise.{filled-damaged, filled-told}
-use borrow.Author.Rules.{rules}
 use Rattle.game.specs.View.{TrueState}
 use Rattle.game.specs.Judge.{Decides}
 use Rattle.game.specs.Laws.Judge.{decides-state}

@@ -1,6 +1,5 @@
 -- `at_end`: the next word is empty exactly where none is left.
 use Rattle.spelling.specs.Laws.Text.{parted-ended}
-use borrow.Author.Rules.{rules}
 use Rattle.spelling.proofs.number.at_end.Goals as goal
 
 pub returns : goal.returns

@@ -1,12 +1,9 @@
-use mathlib.Core.Path.{◌≡◌, sym, ap, ◌∙◌, subst}
+use mathlib.Core.Path.{sym, ap, ◌∙◌, subst}
 use mathlib.Core.List.{List}
-use Prim.Native.Nat.{ℕ, ◌-◌, ◌≤◌}
+use Prim.Native.Nat.{ℕ}
 use native.Mathlib.Omega.{arith}
-use lib.ListN.{length, drop}
-use borrow.Author.Rules.{rules}
-use Rattle.spelling.specs.Text.{words}
 use Rattle.spelling.specs.Number.{numbers}
-use Rattle.spelling.specs.Steps.{Told, Numbered, count_of}
+use Rattle.spelling.specs.Steps.{Told, Numbered}
 use Rattle.spelling.specs.Laws.Steps.{count_more, count_none, count-step, count-last}
 use Rattle.spelling.proofs.number.count_numbers.Goals.{In-Number}
 use Rattle.spelling.proofs.number.count_numbers.Goals as goal

@@ -1,14 +1,11 @@
 -- `count_numbers`: so many numbers lie before the place. The measure is what is left of the text.
-use mathlib.Core.Path.{◌≡◌, sym, ap, ◌∙◌, subst}
-use mathlib.Core.List.{List}
-use Prim.Native.Nat.{ℕ, ◌-◌, ◌≤◌}
-use native.Mathlib.Omega.{arith}
+use mathlib.Core.Path.{◌≡◌}
+use Prim.Native.Nat.{◌-◌, ◌≤◌}
 use lib.ListN.{length, drop}
-use borrow.Author.Rules.{rules}
 use Rattle.spelling.specs.Text.{words}
 use Rattle.spelling.specs.Number.{numbers}
-use Rattle.spelling.specs.Steps.{Told, Numbered, count_of}
-use Rattle.spelling.specs.Laws.Steps.{count_more, count_none, count-step, count-last}
+use Rattle.spelling.specs.Steps.{count_of}
+use Rattle.spelling.specs.Laws.Steps.{count_more}
 use Rattle.spelling.proofs.number.count_numbers.Given as goal
 
 abbrev pub invariant-loop-next : goal.invariant-loop-next

@@ -5,7 +5,6 @@ use Prim.Native.Nat.{ℕ}
 use Rattle.spelling.specs.Number.{numbers}
 use Rattle.spelling.specs.Steps.{Told, Numbered, four_of, four_from}
 use Rattle.spelling.specs.Laws.Steps.{four-step}
-use borrow.Author.Rules.{rules}
 use Rattle.spelling.proofs.number.four_numbers.Goals.{In-Number}
 use Rattle.spelling.proofs.number.four_numbers.Goals as goal
 

@@ -2,7 +2,6 @@
 use mathlib.Core.Path.{sym, ◌∙◌}
 use Rattle.spelling.specs.Steps.{part}
 use Rattle.spelling.specs.Laws.Steps.{parted-number, parted-bad}
-use borrow.Author.Rules.{rules}
 use Rattle.spelling.proofs.number.next_number.Goals as goal
 
 pub returns-then-start-end : goal.returns-then-start-end

@@ -1,8 +1,5 @@
-use Prim.Native.Nat.{◌-◌}
 use native.Mathlib.Omega.{arith}
-use borrow.Author.Rules.{rules}
-use lib.ListN.{length}
-use Rattle.spelling.specs.Laws.Number.{digit-yes, digit_low, digit-high, Growing, growing-none, growing-more, growing-not, growing-whole}
+use Rattle.spelling.specs.Laws.Number.{digit-yes, digit_low, digit-high, growing-none, growing-more, growing-not, growing-whole}
 use Rattle.spelling.proofs.number.number_of.Goals as goal
 
 pub loop-at-init : goal.loop-at-init

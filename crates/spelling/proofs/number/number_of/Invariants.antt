@@ -1,9 +1,7 @@
 -- `number_of`: all before the place are digits, and the number is theirs. The measure is what is left of the word.
 use Prim.Native.Nat.{◌-◌}
-use native.Mathlib.Omega.{arith}
-use borrow.Author.Rules.{rules}
 use lib.ListN.{length}
-use Rattle.spelling.specs.Laws.Number.{digit-yes, digit_low, digit-high, Growing, growing-none, growing-more, growing-not, growing-whole}
+use Rattle.spelling.specs.Laws.Number.{Growing}
 use Rattle.spelling.proofs.number.number_of.Given as goal
 
 abbrev pub invariant-loop-at : goal.invariant-loop-at

@@ -6,7 +6,6 @@ use Rattle.spelling.specs.Number.{numbers}
 use Rattle.spelling.specs.Steps.{Told, Numbered, one_of}
 use Rattle.spelling.specs.declared.number.Number.TheVariants.{Is}
 use Rattle.spelling.specs.Laws.Steps.{one_last, one_more}
-use borrow.Author.Rules.{rules}
 use Rattle.spelling.proofs.number.one_number.Goals.{In-Number}
 use Rattle.spelling.proofs.number.one_number.Goals as goal
 

@@ -5,7 +5,6 @@ use Prim.Native.Nat.{ℕ}
 use Rattle.spelling.specs.Number.{numbers}
 use Rattle.spelling.specs.Steps.{Told, Numbered, three_of, three_from}
 use Rattle.spelling.specs.Laws.Steps.{three-step}
-use borrow.Author.Rules.{rules}
 use Rattle.spelling.proofs.number.three_numbers.Goals.{In-Number}
 use Rattle.spelling.proofs.number.three_numbers.Goals as goal
 

@@ -3,7 +3,6 @@ use Prim.Native.Nat.{◌<◌}
 use native.Mathlib.Omega.{arith}
 use lib.ListN.{length}
 use Rattle.spelling.specs.Laws.Text.{parted-none, parted-some}
-use borrow.Author.Rules.{rules}
 use Rattle.spelling.proofs.words.next_word.Goals as goal
 
 pub returns-then-start-text : goal.returns-then-start-text

@@ -1,9 +1,6 @@
-use Prim.Native.Nat.{◌-◌}
 use native.Mathlib.Omega.{arith}
 use mathlib.Core.Path.{sym, ◌∙◌}
-use borrow.Author.Rules.{rules}
-use lib.ListN.{length}
-use Rattle.spelling.specs.Laws.Text.{Skipping, skipping-none, skipping-more, skipped-here, skipped-all}
+use Rattle.spelling.specs.Laws.Text.{skipping-none, skipping-more, skipped-here, skipped-all}
 use Rattle.spelling.proofs.words.skip_blanks.Goals as goal
 
 pub loop-at-init : goal.loop-at-init

@@ -1,10 +1,7 @@
 -- `skip_blanks`: only blanks lie before the place. The measure is what is left of the text.
 use Prim.Native.Nat.{◌-◌}
-use native.Mathlib.Omega.{arith}
-use mathlib.Core.Path.{sym, ◌∙◌}
-use borrow.Author.Rules.{rules}
 use lib.ListN.{length}
-use Rattle.spelling.specs.Laws.Text.{Skipping, skipping-none, skipping-more, skipped-here, skipped-all}
+use Rattle.spelling.specs.Laws.Text.{Skipping}
 use Rattle.spelling.proofs.words.skip_blanks.Given as goal
 
 abbrev pub invariant-loop-at : goal.invariant-loop-at

@@ -1,9 +1,6 @@
-use Prim.Native.Nat.{◌-◌}
 use native.Mathlib.Omega.{arith}
 use mathlib.Core.Path.{sym, ◌∙◌}
-use borrow.Author.Rules.{rules}
-use lib.ListN.{length}
-use Rattle.spelling.specs.Laws.Text.{Reading, reading-begin, reading-more, ended_here, ended-all}
+use Rattle.spelling.specs.Laws.Text.{reading-begin, reading-more, ended_here, ended-all}
 use Rattle.spelling.proofs.words.word_end.Goals as goal
 
 pub loop-at-init : goal.loop-at-init

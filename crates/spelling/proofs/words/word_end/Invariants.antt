@@ -1,10 +1,7 @@
 -- `word_end`: all before the place belongs to the word. The measure is what is left of the text.
 use Prim.Native.Nat.{◌-◌}
-use native.Mathlib.Omega.{arith}
-use mathlib.Core.Path.{sym, ◌∙◌}
-use borrow.Author.Rules.{rules}
 use lib.ListN.{length}
-use Rattle.spelling.specs.Laws.Text.{Reading, reading-begin, reading-more, ended_here, ended-all}
+use Rattle.spelling.specs.Laws.Text.{Reading}
 use Rattle.spelling.proofs.words.word_end.Given as goal
 
 abbrev pub invariant-loop-at : goal.invariant-loop-at

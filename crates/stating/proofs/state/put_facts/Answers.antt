@@ -6,7 +6,6 @@ use native.Mathlib.Omega.{arith}
 use Rattle.stating.specs.State.{facts}
 use Rattle.stating.specs.Said.{told}
 use Rattle.writing.specs.Laws.Put.{put_then, put_same}
-use borrow.Author.Rules.{rules}
 use Rattle.stating.proofs.state.put_facts.Goals as goal
 
 pub put_spaced-requires : goal.put_spaced-requires
@@ -17,7 +16,10 @@ put_spaced-requires c =
 pub returns : goal.returns
 unfolding told facts
 returns c =
-    let turn = c.put_byte-turn.ensures in record { put = put_then
+    let turn = c.put_byte-turn.ensures in record {
+      put = put_then
           (put_then (put_then (put_then (put_then (put_then (put_same (ap (λ (d : ℕ). d ∷ []) c.player_sign.ensures) turn) c.put_spaced-passes.ensures.put) c.put_spaced-white.ensures.put) c.put_spaced-black.ensures.put) c.put_place-place.ensures.put)
           c.put_outcome-end.ensures.put)
-          c.put_spaced.ensures.put; upper_bound = omega (arith, c.put_spaced.ensures.upper_bound, c.put_outcome-end.ensures.upper_bound, c.put_place-place.ensures.upper_bound, c.put_spaced-black.ensures.upper_bound, c.put_spaced-white.ensures.upper_bound, c.put_spaced-passes.ensures.upper_bound, turn.counted) }
+          c.put_spaced.ensures.put;
+      upper_bound = omega (arith, c.put_spaced.ensures.upper_bound, c.put_outcome-end.ensures.upper_bound, c.put_place-place.ensures.upper_bound, c.put_spaced-black.ensures.upper_bound, c.put_spaced-white.ensures.upper_bound, c.put_spaced-passes.ensures.upper_bound, turn.counted);
+    }

@@ -5,7 +5,6 @@ use Prim.Native.Nat.{ℕ}
 use native.Mathlib.Omega.{arith}
 use Rattle.writing.specs.Figures.{spaced}
 use Rattle.writing.specs.Laws.Put.{put_then, put_same}
-use borrow.Author.Rules.{rules}
 use Rattle.stating.proofs.state.put_outcome.Goals as goal
 
 pub returns-in-Open : goal.returns-in-Open

@@ -1,9 +1,9 @@
 use mathlib.Core.Path.{◌≡◌, refl, sym, ap, ap₂, ◌∙◌}
 use mathlib.Core.List.{List}
-use Prim.Native.Nat.{ℕ, ◌+◌, ◌≤◌, ◌<◌, ◌-◌}
+use Prim.Native.Nat.{ℕ, ◌+◌, ◌<◌}
 use native.Mathlib.Omega.{arith}
 use native.Mathlib.Numerals.{add-one}
-use lib.ListN.{length, get_or, set, length-set}
+use lib.ListN.{get_or, set, length-set}
 use borrow.Author.Rules.{rules}
 use Rattle.rules.specs.Sizes.{max_area}
 use Rattle.chains.specs.Walk.{stepped, walked}
@@ -31,7 +31,6 @@ turn owners₀ next origin count slot owners point n w h link e = record {
       ∙ sym (owning-snoc slot (walked next origin n) owners₀ (stepped next origin n))
       ∙ ap (λ (ps : List ℕ). owning slot ps owners₀) (sym (ap (walked next origin) (add-one n) ∙ walked-suc next origin n));
   long = length-set owners point slot ∙ w.long;
-
 }
 
 -- the walk goes from the chain's origin, as far as it has stones

@@ -1,18 +1,12 @@
 -- `steps::join::own`: after n turns the slot owns the first n points of the walk, and `point` is the next. The measure is what is
 -- left of the count.
-use mathlib.Core.Path.{◌≡◌, refl, sym, ap, ap₂, ◌∙◌}
+use mathlib.Core.Path.{◌≡◌}
 use mathlib.Core.List.{List}
-use Prim.Native.Nat.{ℕ, ◌+◌, ◌≤◌, ◌<◌, ◌-◌}
-use native.Mathlib.Omega.{arith}
-use native.Mathlib.Numerals.{add-one}
-use lib.ListN.{length, get_or, set, length-set}
-use borrow.Author.Rules.{rules}
+use Prim.Native.Nat.{ℕ, ◌≤◌, ◌-◌}
+use lib.ListN.{length}
 use Rattle.rules.specs.Sizes.{max_area}
 use Rattle.chains.specs.Walk.{stepped, walked}
-use Rattle.chains.specs.Laws.Walk.{walked-suc}
 use Rattle.steps.specs.Steps.{owning}
-use Rattle.steps.specs.Links.{Walkable}
-use Rattle.steps.specs.Laws.Ring.{owning-snoc}
 use Rattle.steps.proofs.join.own.Given as goal
 
 pub record Walking (owners₀ next : List ℕ) (origin count slot : ℕ) (owners : List ℕ) (point n : ℕ) : Type 0 where

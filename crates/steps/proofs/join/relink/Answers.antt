@@ -1,9 +1,7 @@
 -- `steps::join::relink`: the two links are those of the two last stones.
 use mathlib.Core.Path.{ap₂}
-use mathlib.Core.List.{List}
 use Prim.Native.Nat.{ℕ}
 use lib.ListN.{set}
-use borrow.Author.Rules.{rules}
 use Rattle.steps.proofs.join.relink.Goals as goal
 
 pub returns : goal.returns

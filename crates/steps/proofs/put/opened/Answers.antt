@@ -1,6 +1,5 @@
 -- `steps::put::opened`: either way, by the test.
 use mathlib.Core.Path.{◌∙◌}
-use borrow.Author.Rules.{rules}
 use borrow.Author.Tests.{eq-eqb, ne_eqb}
 use Rattle.steps.proofs.put.opened.Goals as goal
 

@@ -1,5 +1,4 @@
 -- `steps::put::without`: field by field; the liberties are those that `remove_liberty` leaves.
-use borrow.Author.Rules.{rules}
 use Rattle.steps.specs.Steps.{loses}
 use Rattle.steps.proofs.put.without.Goals as goal
 

@@ -1,5 +1,4 @@
 -- `steps::remove::gain`: the fields are the definition's, the liberties by what `add_liberty` ensures.
-use borrow.Author.Rules.{rules}
 use Rattle.steps.specs.Steps.{gains}
 use Rattle.steps.proofs.remove.gain.Goals as goal
 

@@ -3,7 +3,6 @@ use mathlib.Core.Path.{◌≡◌, refl, sym, ap, ◌∙◌}
 use mathlib.Core.Option.{none, some}
 use native.Mathlib.Omega.{arith}
 use lib.ListN.{get_or, get_or-eq_default}
-use borrow.Author.Rules.{rules}
 use Rattle.rules.specs.Sizes.{slots}
 use Rattle.rules.specs.Points.{sides}
 use Rattle.rules.proofs.Laws.Lists.{get_d_default}

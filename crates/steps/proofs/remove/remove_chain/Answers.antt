@@ -1,7 +1,6 @@
 use mathlib.Core.Path.{◌≡◌, refl, ap, ◌∙◌}
-use Prim.Native.Nat.{◌*◌, ◌/◌, ◌≤◌, ◌-◌}
+use Prim.Native.Nat.{◌*◌}
 use native.Mathlib.Omega.{arith}
-use borrow.Author.Rules.{rules}
 use lib.ListN.{length, get_or, take}
 use Rattle.rules.specs.Sizes.{max_area}
 use Rattle.rules.proofs.Laws.Lists.{get_d_default}
@@ -78,29 +77,30 @@ pub overflow_add-k : goal.overflow_add-k
 overflow_add-k c = let few = (points (goal.at.overflow_add-k c).After-walk-walked).few in omega arith
 
 pub loop-k-preserved-then-gainer-lt-SLOTS : goal.loop-k-preserved-then-gainer-lt-SLOTS
-loop-k-preserved-then-gainer-lt-SLOTS c =
-    (
-      omega arith,
-      turned-hit c.args.board c.args.slot c.walk-walked.new.out c.loop-k.result c.loop-k.k
-          c.index-point.result c.gaining_slot-gainer.result
-          c.loop-k.invariant.1 c.requires.removing.table.shape.chains c.index-point.ensures
-          c.gaining_slot-gainer.ensures c.gain-grown.result c.if-gainer-lt-SLOTS.true c.gain-grown.ensures,
-    )
+loop-k-preserved-then-gainer-lt-SLOTS c = (
+  omega arith,
+  turned-hit c.args.board c.args.slot c.walk-walked.new.out c.loop-k.result c.loop-k.k
+      c.index-point.result c.gaining_slot-gainer.result
+      c.loop-k.invariant.1 c.requires.removing.table.shape.chains c.index-point.ensures
+      c.gaining_slot-gainer.ensures c.gain-grown.result c.if-gainer-lt-SLOTS.true c.gain-grown.ensures,
+)
 
 pub loop-k-preserved : goal.loop-k-preserved
-loop-k-preserved c =
-    (
-      omega arith,
-      turned-miss c.args.board c.args.slot c.walk-walked.new.out c.loop-k.result c.loop-k.k
-          c.index-point.result c.gaining_slot-gainer.result
-          c.loop-k.invariant.1 c.requires.removing.table.shape.chains c.index-point.ensures
-          c.gaining_slot-gainer.ensures c.if-gainer-lt-SLOTS.false,
-    )
+loop-k-preserved c = (
+  omega arith,
+  turned-miss c.args.board c.args.slot c.walk-walked.new.out c.loop-k.result c.loop-k.k
+      c.index-point.result c.gaining_slot-gainer.result
+      c.loop-k.invariant.1 c.requires.removing.table.shape.chains c.index-point.ensures
+      c.gaining_slot-gainer.ensures c.if-gainer-lt-SLOTS.false,
+)
 
 pub own-requires : goal.own-requires
 own-requires c =
-    record { walkable = walkable c.args.board c.args.slot c.requires.removing c.loop-k.result.owners _ _ (kept (goal.at.own-requires c).At-loop-k)
-          (ap (λ x. x.origin) (read (goal.at.own-requires c).Start)) (ap (λ x. x.count) (read (goal.at.own-requires c).Start)); slot_bound = omega arith }
+    record {
+      walkable = walkable c.args.board c.args.slot c.requires.removing c.loop-k.result.owners _ _ (kept (goal.at.own-requires c).At-loop-k)
+          (ap (λ x. x.origin) (read (goal.at.own-requires c).Start)) (ap (λ x. x.count) (read (goal.at.own-requires c).Start));
+      slot_bound = omega arith;
+    }
 
 pub unhash-hash-requires : goal.unhash-hash-requires
 unhash-hash-requires c =

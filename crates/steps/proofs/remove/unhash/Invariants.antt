@@ -1,17 +1,8 @@
 -- `steps::remove::unhash`: after k turns the first k stones are out of the hash. The measure is what is left.
-use mathlib.Core.Bool.{Bool, cond}
-use mathlib.Core.Path.{◌≡◌, refl, ap, ap₂, ◌∙◌}
-use Prim.Native.Nat.{ℕ, ◌≤◌, ◌-◌}
-use native.Mathlib.Omega.{arith}
-use borrow.Author.Rules.{rules}
-use borrow.Author.Tests.{lt-ltb}
-use lib.Bits.{bit_xor}
-use lib.Dec.{ltb}
-use lib.ListN.{get_or, take}
-use Rattle.rules.specs.Sizes.{max_area}
-use Rattle.rules.specs.Hash.{stone_hash}
+use mathlib.Core.Path.{◌≡◌}
+use Prim.Native.Nat.{◌≤◌, ◌-◌}
+use lib.ListN.{take}
 use Rattle.steps.specs.Steps.{unhashed}
-use Rattle.steps.proofs.Turns.{unhashed-more}
 use Rattle.steps.proofs.remove.unhash.Given as goal
 
 abbrev pub invariant-loop-k : goal.invariant-loop-k

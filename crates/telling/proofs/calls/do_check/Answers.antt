@@ -1,7 +1,6 @@
 -- `do_check`: the number of the check; nothing else changes.
 use mathlib.Core.Path.{refl}
 use Rattle.telling.specs.Laws.Told.{told-checks}
-use borrow.Author.Rules.{rules}
 use Rattle.telling.proofs.calls.do_check.Goals as goal
 
 pub returns : goal.returns

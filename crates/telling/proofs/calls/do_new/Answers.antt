@@ -1,6 +1,5 @@
 -- `do_new`: the number of the call, and the game that it made.
 use Rattle.telling.specs.Laws.Told.{told-starts}
-use borrow.Author.Rules.{rules}
 use Rattle.telling.proofs.calls.do_new.Goals as goal
 
 pub returns : goal.returns

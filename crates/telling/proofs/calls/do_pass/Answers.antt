@@ -1,6 +1,5 @@
 -- `do_pass`: the number of the call, and the game after it.
 use Rattle.telling.specs.Laws.Told.{told-calls}
-use borrow.Author.Rules.{rules}
 use Rattle.telling.proofs.calls.do_pass.Goals as goal
 
 pub returns : goal.returns

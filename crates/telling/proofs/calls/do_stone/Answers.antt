@@ -1,7 +1,6 @@
 -- `do_stone`: the number of the call, the game and the lent bytes after it.
 use mathlib.Core.Path.{refl}
 use Rattle.telling.specs.Laws.Told.{told-lays}
-use borrow.Author.Rules.{rules}
 use Rattle.telling.proofs.calls.do_stone.Goals as goal
 
 pub returns : goal.returns

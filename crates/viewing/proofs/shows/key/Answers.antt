@@ -1,6 +1,5 @@
 -- `key`: the one or the other, by the flag.
 use Rattle.viewing.specs.Seen.{key_of}
-use borrow.Author.Rules.{rules}
 use Rattle.viewing.proofs.shows.key.Goals as goal
 
 pub returns-then-chained : goal.returns-then-chained

@@ -3,7 +3,6 @@ use mathlib.Core.Path.{ap, ◌∙◌}
 use borrow.Author.Tests.{eq-eqb, ne_eqb}
 use Rattle.rules.specs.Colours.{at}
 use Rattle.viewing.specs.Seen.{meets}
-use borrow.Author.Rules.{rules}
 use Rattle.viewing.proofs.shows.near_shows.Goals as goal
 
 pub returns-then-colours-p-ne-EMPTY : goal.returns-then-colours-p-ne-EMPTY

@@ -6,7 +6,6 @@ use Rattle.rules.specs.Colours.{at}
 use Rattle.rules.specs.Points.{area, index}
 use Rattle.rules.proofs.Laws.Points.{index_on}
 use Rattle.viewing.specs.Seen.{OnBoard}
-use borrow.Author.Rules.{rules}
 use Rattle.viewing.proofs.shows.shows.Goals as goal
 
 pub near_shows-requires : goal.near_shows-requires

@@ -1,17 +1,14 @@
-use mathlib.Core.Path.{◌≡◌, sym, ap, ◌∙◌}
-use mathlib.Core.Logic.{⊎_elim}
-use Prim.Native.Nat.{ℕ, ◌≤◌, ◌<◌, ◌-◌}
+use mathlib.Core.Path.{◌≡◌, ap, ◌∙◌}
+use Prim.Native.Nat.{ℕ, ◌≤◌, ◌<◌}
 use native.Mathlib.Omega.{arith}
 use borrow.Author.Rules.{rules}
 use mathlib.Core.List.{[]}
-use lib.ListN.{length, get_or, replicate, length-replicate, length-map}
+use lib.ListN.{length, get_or, replicate, length-replicate}
 use Rattle.rules.specs.Sizes.{max_area, slots}
 use Rattle.rules.specs.Lists.{tabulate}
 use Rattle.chains.specs.declared.group.Chain.{Chain}
-use Rattle.chains.specs.contracts.group.Chain as chain
 use Rattle.board.specs.Board.{colour_at}
 use Rattle.viewing.specs.View.{lead_at, view_of}
-use Rattle.viewing.specs.Front.{Front}
 use Rattle.viewing.specs.Laws.View.{view-chained, view-free}
 use Rattle.viewing.specs.Laws.Front.{front-none, front-tabulate, front-whole}
 use Rattle.viewing.proofs.view.view_of.Goals.{Joined-owner-lt-SLOTS, then-owner-lt-SLOTS, else-owner-lt-SLOTS}

@@ -1,20 +1,11 @@
 -- `view_of`: after n turns the first n places show the first n points. The measure is what is left of the places.
-use mathlib.Core.Path.{◌≡◌, sym, ap, ◌∙◌}
-use mathlib.Core.Logic.{⊎_elim}
-use Prim.Native.Nat.{ℕ, ◌≤◌, ◌<◌, ◌-◌}
-use native.Mathlib.Omega.{arith}
-use borrow.Author.Rules.{rules}
-use mathlib.Core.List.{[]}
-use lib.ListN.{length, get_or, replicate, length-replicate, length-map}
-use Rattle.rules.specs.Sizes.{max_area, slots}
+use Prim.Native.Nat.{◌≤◌, ◌-◌}
+use lib.ListN.{replicate}
+use Rattle.rules.specs.Sizes.{max_area}
 use Rattle.rules.specs.Lists.{tabulate}
-use Rattle.chains.specs.declared.group.Chain.{Chain}
-use Rattle.chains.specs.contracts.group.Chain as chain
 use Rattle.board.specs.Board.{colour_at}
-use Rattle.viewing.specs.View.{lead_at, view_of}
+use Rattle.viewing.specs.View.{lead_at}
 use Rattle.viewing.specs.Front.{Front}
-use Rattle.viewing.specs.Laws.View.{view-chained, view-free}
-use Rattle.viewing.specs.Laws.Front.{front-none, front-tabulate, front-whole}
 use Rattle.viewing.proofs.view.view_of.Given as goal
 
 abbrev pub invariant-loop-point : goal.invariant-loop-point

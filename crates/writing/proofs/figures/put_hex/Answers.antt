@@ -1,10 +1,8 @@
-use mathlib.Core.Path.{◌≡◌, ap}
+use mathlib.Core.Path.{ap}
 use mathlib.Core.List.{[], ◌∷◌}
-use Prim.Native.Nat.{ℕ, ◌+◌, ◌*◌, ◌-◌, ◌≤◌}
+use Prim.Native.Nat.{ℕ}
 use native.Mathlib.Omega.{arith}
-use lib.ListN.{length, take}
 use Rattle.writing.specs.Figures.{hex}
-use Rattle.writing.specs.Put.{Put}
 use Rattle.writing.specs.Laws.Put.{put-none, put_then, put_same, put_all}
 use Rattle.writing.specs.Laws.Figures.{hex-more}
 use Rattle.writing.proofs.figures.put_hex.Goals as goal

@@ -4,7 +4,6 @@ use Prim.Native.Nat.{◌≤◌}
 use native.Mathlib.Omega.{arith}
 use Rattle.writing.specs.Laws.Figures.{fewest-decimal, fewest-most}
 use Rattle.writing.specs.Laws.Put.{put_same}
-use borrow.Author.Rules.{rules}
 use Rattle.writing.proofs.figures.put_number.Goals.{After-decimal-count}
 use Rattle.writing.proofs.figures.put_number.Goals as goal
 

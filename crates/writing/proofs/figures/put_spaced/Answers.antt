@@ -2,7 +2,6 @@
 use native.Mathlib.Omega.{arith}
 use Rattle.writing.specs.Figures.{spaced}
 use Rattle.writing.specs.Laws.Put.{put_then}
-use borrow.Author.Rules.{rules}
 use Rattle.writing.proofs.figures.put_spaced.Goals as goal
 
 pub returns : goal.returns
