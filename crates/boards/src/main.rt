@@ -1,7 +1,7 @@
 // Boards made by hand: built from colours, drawn and asked. What it writes is known by heart and stands in `stdout`.
 #![tactic(auto)]
 
-ghost use Rattle.io.specs.Counts.{IsPrefixLen};
+ghost use Rattle.std.specs.Prelude.{◌≡◌, ◌≤◌, length, take};
 
 use board::goban::Board;
 use chains::group::index;
@@ -12,10 +12,16 @@ use grouping::group::chain_at;
 use making::make::from_colours;
 use points::sizes::{MAX_AREA, MAX_SIDE};
 use points::stones::{BLACK, WHITE};
+use std::io;
+use std::io::{Print, Write};
+
+// As many bytes as a picture may have.
+const PICTURE_BYTES: usize = 4096;
 
 // As many of the bytes as there are.
 fn within(count: usize, buffer: &[u8]) -> usize
-    ensures { IsPrefixLen result buffer.now }
+    ensures within { result ≤ length buffer.now }
+    ensures taken { result ≡ length (take result buffer.now) }
 {
     if count < buffer.len() {
         return count;
@@ -23,68 +29,66 @@ fn within(count: usize, buffer: &[u8]) -> usize
     buffer.len()
 }
 
-fn write_front(buffer: &[u8], count: usize) {
+fn write_front(rt: &impl Print, buffer: &[u8], count: usize) -> io::Result<()> {
     let end = within(count, buffer);
-    io::write_all(1, &buffer[..end]);
+    io::writer(rt).write_all(&buffer[..end])
 }
 
-fn say(number: usize) {
-    io::print_decimal(1, number as u64);
-    io::write_all(1, b" ");
+fn say(rt: &impl Print, number: usize) -> io::Result<()> {
+    print!(rt; "{number} ")
 }
 
 // The picture, after a line with the number of chains.
-fn draw(board: Board) {
-    io::write_all(1, b"chains ");
-    say(number_of_chains(board).chains);
-    io::write_all(1, b"\n");
-    let mut buffer = io::buffer();
+fn draw(rt: &impl Print, board: Board) -> io::Result<()> {
+    print!(rt; "chains ")?;
+    say(rt, number_of_chains(board).chains)?;
+    println!(rt; "")?;
+    let mut buffer = [0u8; PICTURE_BYTES];
     let listed = pretty_string(board, &mut buffer);
-    write_front(&buffer, listed.count);
+    write_front(rt, &buffer, listed.count)
 }
 
 // The board of these colours, drawn after the number that it was answered with.
-fn made(height: u8, width: u8, colours: &[u8]) -> Board {
+fn made(rt: &impl Print, height: u8, width: u8, colours: &[u8]) -> io::Result<Board> {
     let placed = from_colours(height, width, colours);
-    io::write_all(1, b"from colours ");
-    say(placed.answer as usize);
-    io::write_all(1, b"\n");
+    print!(rt; "from colours ")?;
+    say(rt, placed.answer as usize)?;
+    println!(rt; "")?;
     let board = placed.board;
-    draw(board);
-    board
+    draw(rt, board)?;
+    Ok(board)
 }
 
 // What the board tells of the chain at a point: answer, colour, stones, liberties, least point.
-fn ask(board: Board, row: u8, column: u8) {
+fn ask(rt: &impl Print, board: Board, row: u8, column: u8) -> io::Result<()> {
     let chain = chain_at(board, row, column);
-    io::write_all(1, b"chain ");
-    say(chain.answer as usize);
-    say(chain.colour as usize);
-    say(chain.stones);
-    say(chain.liberties);
-    say(chain.origin);
-    io::write_all(1, b"\n");
+    print!(rt; "chain ")?;
+    say(rt, chain.answer as usize)?;
+    say(rt, chain.colour as usize)?;
+    say(rt, chain.stones)?;
+    say(rt, chain.liberties)?;
+    say(rt, chain.origin)?;
+    println!(rt; "")
 }
 
-fn say_all(points: &[u16], count: usize) {
-    let mut i = 0;
-    while i < points.len() {
+fn say_all(rt: &impl Print, points: &[u16], count: usize) -> io::Result<()> {
+    for (i, &point) in points.iter().enumerate() {
         if i < count {
-            say(index(points[i]));
+            say(rt, index(point))?;
         }
-        i += 1;
     }
+    Ok(())
 }
 
 // The liberties of the chain at a point: answer, how many, and which.
-fn list(board: Board, row: u8, column: u8) {
+fn list(rt: &impl Print, board: Board, row: u8, column: u8) -> io::Result<()> {
     let mut points = [0u16; MAX_AREA];
     let listed = chain_liberties(board, row, column, &mut points);
-    io::write_all(1, b"liberties ");
-    say(listed.number as usize);
-    say(listed.count);
-    say_all(&points, listed.count);
-    io::write_all(1, b"\n");
+    print!(rt; "liberties ")?;
+    say(rt, listed.number as usize)?;
+    say(rt, listed.count)?;
+    say_all(rt, &points, listed.count)?;
+    println!(rt; "")
 }
 
 // Black and White by turns on every point.
@@ -98,49 +102,36 @@ fn chequered() -> [u8; MAX_AREA] {
     colours
 }
 
-fn main() {
-    io::write_all(
-        1,
-        b"== refused: size, length, colour, a chain without liberty\n",
-    );
-    made(0, 3, &[]);
-    made(2, 2, &[0, 1, 2]);
-    made(2, 2, &[0, 1, 2, 3]);
-    made(2, 2, &[2, 1, 1, 0]);
-    io::write_all(
-        1,
-        b"== every point a chain of its own, and none has a liberty\n",
-    );
+fn main(rt: HostRuntime) -> io::Result<()> {
+    println!(rt; "== refused: size, length, colour, a chain without liberty")?;
+    made(&rt, 0, 3, &[])?;
+    made(&rt, 2, 2, &[0, 1, 2])?;
+    made(&rt, 2, 2, &[0, 1, 2, 3])?;
+    made(&rt, 2, 2, &[2, 1, 1, 0])?;
+    println!(rt; "== every point a chain of its own, and none has a liberty")?;
     let full = chequered();
-    made(MAX_SIDE as u8, MAX_SIDE as u8, &full);
-    io::write_all(
-        1,
-        b"== four chains around a point, and what is off the board\n",
-    );
-    let around = made(3, 3, &[0, 1, 0, 1, 0, 1, 0, 1, 0]);
-    ask(around, 0, 1);
-    ask(around, 1, 1);
-    ask(around, 3, 0);
-    io::write_all(1, b"== one chain: shared liberties are counted once\n");
-    let cross = made(3, 3, &[0, 1, 0, 1, 1, 1, 0, 1, 0]);
-    ask(cross, 2, 1);
-    io::write_all(
-        1,
-        b"== both colours, a chain that goes round a corner, one in atari\n",
-    );
+    made(&rt, MAX_SIDE as u8, MAX_SIDE as u8, &full)?;
+    println!(rt; "== four chains around a point, and what is off the board")?;
+    let around = made(&rt, 3, 3, &[0, 1, 0, 1, 0, 1, 0, 1, 0])?;
+    ask(&rt, around, 0, 1)?;
+    ask(&rt, around, 1, 1)?;
+    ask(&rt, around, 3, 0)?;
+    println!(rt; "== one chain: shared liberties are counted once")?;
+    let cross = made(&rt, 3, 3, &[0, 1, 0, 1, 1, 1, 0, 1, 0])?;
+    ask(&rt, cross, 2, 1)?;
+    println!(rt; "== both colours, a chain that goes round a corner, one in atari")?;
     let mixed = made(
+        &rt,
         4,
         5,
         &[1, 1, 2, 0, 0, 1, 2, 2, 0, 1, 1, 2, 0, 2, 1, 1, 0, 2, 0, 2],
-    );
-    ask(mixed, 3, 0);
-    ask(mixed, 0, 2);
-    ask(mixed, 2, 4);
-    ask(mixed, 3, 4);
-    list(mixed, 1, 4);
-    io::write_all(
-        1,
-        b"== one row: its ends are corners, the rest is the upper edge\n",
-    );
-    made(1, 7, &[0, 1, 1, 0, 1, 1, 0]);
+    )?;
+    ask(&rt, mixed, 3, 0)?;
+    ask(&rt, mixed, 0, 2)?;
+    ask(&rt, mixed, 2, 4)?;
+    ask(&rt, mixed, 3, 4)?;
+    list(&rt, mixed, 1, 4)?;
+    println!(rt; "== one row: its ends are corners, the rest is the upper edge")?;
+    made(&rt, 1, 7, &[0, 1, 1, 0, 1, 1, 0])?;
+    Ok(())
 }

@@ -1,6 +1,8 @@
 // The twelve small games that are known by heart, played through the referee's calls: what it must answer stands in `stdout`.
 #![tactic(auto)]
 
-fn main() {
-    serving::serve();
+use std::io;
+
+fn main(rt: HostRuntime) -> io::Result<()> {
+    serving::serve(&rt)
 }

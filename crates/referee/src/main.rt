@@ -1,6 +1,8 @@
 // The referee at a desk: one call a line on standard input, one reply a line on standard output.
 #![tactic(auto)]
 
-fn main() {
-    serving::serve();
+use std::io;
+
+fn main(rt: HostRuntime) -> io::Result<()> {
+    serving::serve(&rt)
 }

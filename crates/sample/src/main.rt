@@ -1,6 +1,8 @@
 // Some thousand calls with the crate's answers to them, played through the referee's calls: `compare/sample/make` made its files.
 #![tactic(auto)]
 
-fn main() {
-    serving::serve();
+use std::io;
+
+fn main(rt: HostRuntime) -> io::Result<()> {
+    serving::serve(&rt)
 }

@@ -4,7 +4,6 @@ ghost use Rattle.writing.specs.Figures.{decimal, spaced, hex_digit, hex};
 ghost use Rattle.writing.specs.Put.{Put};
 
 use crate::put::{put_byte, put_text};
-use itoa::Buffer;
 
 const SPACE: u8 = 32;
 
@@ -14,8 +13,9 @@ pub fn put_number(out: &mut [u8], at: usize, number: u64) -> usize
     ensures put { Put (decimal number) out.old at result out.new }
     ensures upper_bound { result ≤ at + 20 }
 {
-    let mut digits = Buffer::new();
-    put_text(out, at, digits.format(number).as_bytes())
+    let mut digits = [0u8; 20];
+    let count = io::decimal(number, &mut digits);
+    put_text(out, at, &digits[..count])
 }
 
 // A space and the digits of a number.

@@ -16,33 +16,29 @@ pub returns-then-facts-ne-ACCEPTED : goal.returns-then-facts-ne-ACCEPTED
 unfolding number no_facts
 returns-then-facts-ne-ACCEPTED c =
     let facts = c.facts_of-facts in
-    let digits = (c.put_number.ensures.put, c.put_number.ensures.upper_bound) in
     record {
       stated = λ is. absurd (c.if-facts-ne-ACCEPTED.true (facts.ensures.told is).answer);
-      damaged = λ n. put_same (ap decimal (damaged-answer _ _ facts.ensures n)) digits.0;
-      short = omega (arith, digits.1);
+      damaged = λ n. put_same (ap decimal (damaged-answer _ _ facts.ensures n)) c.put_number.ensures.put;
+      short = omega (arith, c.put_number.ensures.upper_bound);
     }
 
 pub put_rows-requires : goal.put_rows-requires
 put_rows-requires c =
     let fits : c.area-end.result ≤ max_area = omega (arith, c.area-end.ensures, area-undamaged _ _ c.facts_of-facts.ensures c.if-facts-ne-ACCEPTED.false) in
-    let facts = (c.put_facts-next.ensures.put, c.put_facts-next.ensures.upper_bound) in
     let gap = c.put_byte-rows.ensures in
-    (c.to_vec.auto.1.0, fits, omega (arith, fits, facts.1, facts.0.long, gap.counted, gap.long, c.requires))
+    (search rules, fits, omega (arith, fits, c.put_facts-next.ensures.upper_bound, c.put_facts-next.ensures.put.long, gap.counted, gap.long, c.requires))
 
 pub returns : goal.returns
 returns c =
     let facts = c.facts_of-facts.ensures in
     let open' = c.if-facts-ne-ACCEPTED.false in
     let end = c.area-end.ensures in
-    let first = (c.put_facts-next.ensures.put, c.put_facts-next.ensures.upper_bound) in
     let gap = c.put_byte-rows.ensures in
-    let rows = (c.put_rows.ensures.put, c.put_rows.ensures.upper_bound) in
     let fits = area-undamaged _ _ facts open' in
     record {
       stated = λ is.
           put_same (state-said _ _ _ _ _ refl is facts c.to_vec.ensures)
-          (put_then (put_then first.0 gap) (put_same (ap (rows_upto _ _) end) rows.0));
+          (put_then (put_then c.put_facts-next.ensures.put gap) (put_same (ap (rows_upto _ _) end) c.put_rows.ensures.put));
       damaged = λ n. absurd (undamaged _ _ facts open' n);
-      short = omega (arith, fits, end, first.1, gap.counted, rows.1);
+      short = omega (arith, fits, end, c.put_facts-next.ensures.upper_bound, gap.counted, c.put_rows.ensures.upper_bound);
     }

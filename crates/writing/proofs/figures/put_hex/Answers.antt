@@ -1,8 +1,10 @@
-use mathlib.Core.Path.{ap}
+use mathlib.Core.Path.{◌≡◌, ap}
 use mathlib.Core.List.{[], ◌∷◌}
-use Prim.Native.Nat.{ℕ}
+use Prim.Native.Nat.{ℕ, ◌+◌, ◌*◌, ◌-◌, ◌≤◌}
 use native.Mathlib.Omega.{arith}
+use lib.ListN.{length, take}
 use Rattle.writing.specs.Figures.{hex}
+use Rattle.writing.specs.Put.{Put}
 use Rattle.writing.specs.Laws.Put.{put-none, put_then, put_same, put_all}
 use Rattle.writing.specs.Laws.Figures.{hex-more}
 use Rattle.writing.proofs.figures.put_hex.Goals as goal
@@ -11,7 +13,7 @@ pub loop-i-init : goal.loop-i-init
 loop-i-init c = (omega arith, omega arith, put-none _ _ (omega arith))
 
 pub hex_digit-requires : goal.hex_digit-requires
-hex_digit-requires c = omega (arith, c.type_inv.bytes c.loop-i.i)
+hex_digit-requires c = omega (arith, c.shared_slice_known-in-loop-i-1.given c.loop-i.i)
 
 pub put_byte-at-requires : goal.put_byte-at-requires
 put_byte-at-requires c = omega (arith, c.loop-i.invariant.2.long)

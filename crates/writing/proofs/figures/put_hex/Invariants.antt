@@ -1,9 +1,13 @@
 -- `put_hex`: the digits of the first bytes stand there. The measure is how many bytes are left.
-use mathlib.Core.Path.{◌≡◌}
-use Prim.Native.Nat.{◌+◌, ◌*◌, ◌-◌, ◌≤◌}
+use mathlib.Core.Path.{◌≡◌, ap}
+use mathlib.Core.List.{[], ◌∷◌}
+use Prim.Native.Nat.{ℕ, ◌+◌, ◌*◌, ◌-◌, ◌≤◌}
+use native.Mathlib.Omega.{arith}
 use lib.ListN.{length, take}
 use Rattle.writing.specs.Figures.{hex}
 use Rattle.writing.specs.Put.{Put}
+use Rattle.writing.specs.Laws.Put.{put-none, put_then, put_same, put_all}
+use Rattle.writing.specs.Laws.Figures.{hex-more}
 use Rattle.writing.proofs.figures.put_hex.Given as goal
 
 abbrev pub invariant-loop-i : goal.invariant-loop-i

@@ -1,5 +1,6 @@
 -- `put_byte`: one store.
 use Rattle.writing.specs.Laws.Put.{put_one}
+use borrow.Author.Rules.{rules}
 use Rattle.writing.proofs.put.put_byte.Goals as goal
 
 pub returns : goal.returns

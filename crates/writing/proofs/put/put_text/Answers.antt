@@ -1,6 +1,9 @@
+use mathlib.Core.Path.{◌≡◌}
 use mathlib.Core.List.{List}
-use Prim.Native.Nat.{ℕ}
+use Prim.Native.Nat.{ℕ, ◌+◌, ◌-◌, ◌≤◌}
 use native.Mathlib.Omega.{arith}
+use lib.ListN.{length, take}
+use Rattle.writing.specs.Put.{Put}
 use Rattle.writing.specs.Laws.Put.{put-none, put_next, put_all}
 use Rattle.writing.proofs.put.put_text.Goals as goal
 

@@ -1,8 +1,11 @@
 -- `put_text`: the first bytes of the text stand there. The measure is what is left of it.
 use mathlib.Core.Path.{◌≡◌}
-use Prim.Native.Nat.{◌+◌, ◌-◌, ◌≤◌}
+use mathlib.Core.List.{List}
+use Prim.Native.Nat.{ℕ, ◌+◌, ◌-◌, ◌≤◌}
+use native.Mathlib.Omega.{arith}
 use lib.ListN.{length, take}
 use Rattle.writing.specs.Put.{Put}
+use Rattle.writing.specs.Laws.Put.{put-none, put_next, put_all}
 use Rattle.writing.proofs.put.put_text.Given as goal
 
 abbrev pub invariant-loop-i : goal.invariant-loop-i

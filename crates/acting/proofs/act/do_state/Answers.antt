@@ -9,21 +9,14 @@ use Rattle.writing.specs.Figures.{decimal}
 use Rattle.stating.specs.State.{state}
 use Rattle.telling.specs.Told.{Unlent}
 use borrow.Author.Rules.{rules}
-use Rattle.acting.proofs.act.do_state.Statement.{statement}
-use Rattle.acting.proofs.act.do_state.Tie as tie
+use Rattle.acting.proofs.act.do_state.Goals as goal
 
-put-state-requires : tie.Need-put-state-requires
-put-state-requires c κs = search rules
-
-same_length : tie.Need-same-length
-same_length c = search rules
-
-returns : tie.Need-returns
+pub returns : goal.returns
 unfolding Unlent
 returns c =
     λ bytes e.
-    let s = c.before.before.put-state.ensures in
-    let g = c.before.before.before.before.before.args.game in
+    let s = c.put_state-at.ensures in
+    let g = c.args.game in
     ⊎_elim
     (λ is.
     record {
@@ -40,6 +33,3 @@ returns c =
       done = record { told = λ t. absurd (n t); damaged = λ m. refl; stays = record { game = refl; lent = e; kept = refl } };
     })
     (state-or-not g)
-
-pub do-state-spec : {M : Type 1} → statement M
-do-state-spec = tie.close (tie.spec put-state-requires same_length returns)

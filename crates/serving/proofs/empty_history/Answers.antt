@@ -3,11 +3,7 @@ use mathlib.Core.Path.{sym}
 use Prim.Native.Nat.{ℕ}
 use lib.ListN.{length-replicate}
 use Rattle.spelling.specs.Number.{max_lent}
-use Rattle.serving.proofs.empty_history.Statement.{statement}
-use Rattle.serving.proofs.empty_history.Tie as tie
+use Rattle.serving.proofs.empty_history.Goals as goal
 
-returns : tie.Need-returns
+pub returns : goal.returns
 returns c = sym (length-replicate {A = ℕ} max_lent 0)
-
-pub empty-history-spec : {M : Type 1} → statement M
-empty-history-spec = tie.close (tie.spec returns)

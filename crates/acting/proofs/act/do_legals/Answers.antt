@@ -1,0 +1,67 @@
+-- `do_legals`: the points that were filled in, or the number of the refusal.
+use mathlib.Core.Path.{◌≡◌, refl, sym}
+use Prim.Native.Nat.{◌≤◌}
+use native.Mathlib.Omega.{arith}
+use mathlib.Core.List.{◌++◌}
+use lib.ListN.{length, take}
+use lib.Seq.{length-take-le}
+use Rattle.rules.specs.Sizes.{max_area}
+use Rattle.writing.specs.Figures.{decimal, spaced}
+use Rattle.wording.specs.Replies.{each}
+use Rattle.writing.specs.Laws.Put.{put_then}
+use Rattle.telling.specs.Reply.{TrueDesk}
+use Rattle.telling.specs.Laws.Told.{told-stays}
+use Rattle.acting.specs.Laws.Lists.{listed-few, refused-text, damaged-text, accepted-true, accepted-text}
+use borrow.Author.Rules.{rules}
+use Rattle.acting.proofs.act.do_legals.Goals.{After-legals_by-listed}
+use Rattle.acting.proofs.act.do_legals.Goals as goal
+
+few : (c : After-legals_by-listed) → c.legals_by-listed.result.count ≤ max_area
+few c = listed-few _ _ _ _ _ _ refl c.legals_by-listed.ensures
+
+taken : (c : After-legals_by-listed) → length (take c.legals_by-listed.result.count c.legals_by-listed.new.buffer) ≡ c.legals_by-listed.result.count
+taken c = length-take-le _ _ (omega (arith, few c, c.legals_by-listed.auto.buffer))
+
+pub returns-then-listed-ne-ACCEPTED : goal.returns-then-listed-ne-ACCEPTED
+unfolding TrueDesk
+returns-then-listed-ne-ACCEPTED c =
+    let l = c.legals_by-listed.ensures in
+    let t = c.tell.ensures in
+    record {
+      text = decimal c.legals_by-listed.result.number;
+      written = t.written;
+      short = t.short;
+      done =
+          record {
+            told = refused-text _ _ _ _ _ _ refl l c.if-listed-ne-ACCEPTED.true;
+            damaged = damaged-text _ _ _ _ _ _ refl l;
+            stays = told-stays t _ _ refl;
+          };
+    }
+
+pub slice_bounds-points-end : goal.slice_bounds-points-end
+slice_bounds-points-end c = omega (arith, few (goal.at.slice_bounds-points-end c).After-legals_by-listed, c.legals_by-listed.auto.buffer)
+
+pub slice_bounds-put_points-end : goal.slice_bounds-put_points-end
+slice_bounds-put_points-end c = sym (taken (goal.at.slice_bounds-put_points-end c).After-legals_by-listed)
+
+pub put_points-at-requires : goal.put_points-at-requires
+put_points-at-requires c =
+    omega (arith, taken (goal.at.put_points-at-requires c).After-legals_by-listed, few (goal.at.put_points-at-requires c).After-legals_by-listed, c.put_number-first.ensures.upper_bound, c.put_number-first.ensures.put.long, c.put_spaced-next.ensures.upper_bound, c.put_spaced-next.ensures.put.long, c.requires)
+
+pub returns : goal.returns
+unfolding TrueDesk
+returns c =
+    let l = c.legals_by-listed.ensures in
+    let zero-told = c.if-listed-ne-ACCEPTED.false in
+    record {
+      text = decimal 0 ++ spaced (decimal c.legals_by-listed.result.count) ++ each (take c.legals_by-listed.result.count c.legals_by-listed.new.buffer);
+      written = put_then (put_then c.put_number-first.ensures.put c.put_spaced-next.ensures.put) c.put_points-at.ensures.put;
+      short = omega (arith, taken (goal.at.returns c).After-legals_by-listed, few (goal.at.returns c).After-legals_by-listed, c.put_number-first.ensures.upper_bound, c.put_spaced-next.ensures.upper_bound, c.put_points-at.ensures.upper_bound);
+      done =
+          record {
+            told = accepted-text _ _ _ _ _ _ refl l zero-told;
+            damaged = λ n. absurd (accepted-true _ _ _ _ _ _ refl l zero-told n);
+            stays = record { game = refl; lent = refl; kept = refl };
+          };
+    }
