@@ -1,4 +1,2 @@
--- What the walks by hand share.
-mod Again
-mod Lent
-pub mod Values
+-- Laws that the proof of a replay cites.
+pub mod Turn
