@@ -3,5 +3,3 @@ pub mod Runs
 pub mod Holds
 pub mod Orders
 pub mod Alike
-pub mod Laws
-pub mod Statements

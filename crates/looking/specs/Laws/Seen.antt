@@ -18,7 +18,7 @@ use Rattle.board.specs.declared.goban.Board.{Board}
 use Rattle.board.specs.Board.{owner, chain_in}
 use Rattle.board.specs.True.{ExactChain, TrueBoard}
 use Rattle.history.specs.Packing.{on_largest}
-use Rattle.history.specs.Laws.Packing.{length-on_largest}
+use Rattle.history.proofs.Laws.Packing.{length-on_largest}
 use Rattle.legality.specs.Near.{in_four, of_stone, near_of}
 use Rattle.looking.specs.Seen.{chain_seen, seen_of, Counted, Shows, near_in}
 use Rattle.looking.specs.Laws.Table.{liberties_at, liberties-told}

@@ -20,7 +20,7 @@ use Rattle.board.specs.Laws.Board.{area-fits, length-colours, at-colours, empty-
 use Rattle.looking.specs.declared.look.Sight.{Sight}
 use Rattle.looking.specs.Seen.{Sees, Partly}
 use Rattle.history.specs.Packing.{on_largest, colour_part, record_by, Packing}
-use Rattle.history.specs.Laws.Packing.{length-on_largest, at-on_largest, part-on_largest}
+use Rattle.history.proofs.Laws.Packing.{length-on_largest, at-on_largest, part-on_largest}
 
 module _ (b : Board) (is : TrueBoard b) where
   colours-fit : length (colours_of b) ≤ max_area

@@ -9,7 +9,7 @@ use Rattle.rules.specs.Game.{Player}
 use Rattle.rules.specs.Calls.{one_if}
 use Rattle.rules.specs.Records.{record_of, capacity, full}
 use Rattle.history.specs.History.{among}
-use Rattle.history.specs.Laws.History.{among-recorded}
+use Rattle.history.proofs.Laws.History.{among-recorded}
 use Rattle.game.specs.View.{turn_of, view_of, TrueState}
 use Rattle.game.specs.declared.state.Game.{Game}
 use Rattle.game.specs.declared.state.Tally.{Tally}

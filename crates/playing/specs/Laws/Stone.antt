@@ -30,7 +30,7 @@ use Rattle.laying.specs.declared.lay.Laid.{Laid}
 use Rattle.laying.specs.Laying.{Laying, LaidOut}
 use Rattle.rules.proofs.Laws.Answers.{accepts-zero, refuses-other, then-refused, then-accepted, passes, test-refuses, test-passes, other-refuses}
 use Rattle.history.specs.History.{among}
-use Rattle.history.specs.Laws.History.{among-recorded}
+use Rattle.history.proofs.Laws.History.{among-recorded}
 use Rattle.looking.specs.declared.look.Sight.{Sight}
 use Rattle.looking.specs.Laws.Sight.{sees-packing, sees-record}
 use Rattle.game.specs.declared.state.Game.{Game}

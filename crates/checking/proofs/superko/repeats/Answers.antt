@@ -9,7 +9,7 @@ use Rattle.rules.specs.Calls.{resulting}
 use Rattle.rules.proofs.Laws.Records.{length-record}
 use Rattle.board.specs.Board.{colours_of}
 use Rattle.history.specs.History.{among}
-use Rattle.history.specs.Laws.History.{among-recorded}
+use Rattle.history.proofs.Laws.History.{among-recorded}
 use Rattle.looking.specs.Laws.Sight.{unread, sees-packing, sees-record}
 use Rattle.game.specs.View.{RoomIn, view_of}
 use Rattle.checking.specs.Laws.Asking.{repeating-laying}

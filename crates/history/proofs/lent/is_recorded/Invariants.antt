@@ -9,7 +9,7 @@ use borrow.Author.Count.{below_none, below_more}
 use Rattle.rules.specs.Sizes.{record_bytes}
 use Rattle.rules.specs.Lists.{same}
 use Rattle.rules.specs.Records.{capacity, stored}
-use Rattle.history.specs.Laws.History.{part-stored, length-stored, among-here, among_none}
+use Rattle.history.proofs.Laws.History.{part-stored, length-stored, among-here, among_none}
 use Rattle.history.proofs.lent.is_recorded.Given as goal
 
 abbrev pub invariant-loop-looked : goal.invariant-loop-looked

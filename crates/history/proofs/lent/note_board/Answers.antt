@@ -4,7 +4,7 @@ use native.Mathlib.Omega.{arith}
 use lib.ListN.{length}
 use Rattle.rules.proofs.Laws.Records.{length-record}
 use Rattle.history.specs.History.{Adding}
-use Rattle.history.specs.Laws.History.{noted-before, noted-new, adding}
+use Rattle.history.proofs.Laws.History.{noted-before, noted-new, adding}
 use borrow.Author.Rules.{rules}
 use Rattle.history.proofs.lent.note_board.Goals.{Else-is_recorded}
 use Rattle.history.proofs.lent.note_board.Goals as goal

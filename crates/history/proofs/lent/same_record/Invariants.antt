@@ -5,7 +5,7 @@ use native.Mathlib.Omega.{arith}
 use lib.ListN.{get_or}
 use borrow.Author.Count.{below_none, below_more}
 use Rattle.rules.specs.Sizes.{record_bytes}
-use Rattle.history.specs.Laws.Lists.{same_not, same-each}
+use Rattle.history.proofs.Laws.Lists.{same_not, same-each}
 use Rattle.history.proofs.lent.same_record.Given as goal
 
 abbrev pub invariant-loop-i : goal.invariant-loop-i

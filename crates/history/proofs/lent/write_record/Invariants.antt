@@ -6,7 +6,7 @@ use native.Mathlib.Omega.{arith}
 use lib.ListN.{length, get_or, set, drop_of_length-le}
 use lib.Seq.{paste, length-paste}
 use Rattle.rules.specs.Sizes.{record_bytes}
-use Rattle.history.specs.Laws.Lists.{paste_more, paste-whole}
+use Rattle.history.proofs.Laws.Lists.{paste_more, paste-whole}
 use Rattle.history.proofs.lent.write_record.Given as goal
 
 abbrev pub invariant-loop-written : goal.invariant-loop-written

@@ -1,7 +1,7 @@
 -- `record_by`: hash and colours are written over zeros, the last of which stays.
 use mathlib.Core.Path.{◌∙◌}
 use borrow.Author.Rules.{rules}
-use Rattle.history.specs.Laws.Packing.{record-made, record-long}
+use Rattle.history.proofs.Laws.Packing.{record-made, record-long}
 use Rattle.history.proofs.packing.record_by.Goals as goal
 
 pub write_colours-requires : goal.write_colours-requires

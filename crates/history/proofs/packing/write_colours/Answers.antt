@@ -10,7 +10,7 @@ use Rattle.rules.specs.Colours.{at}
 use Rattle.rules.proofs.Laws.Lists.{length-tabulate, get_or-tabulate-zero}
 use Rattle.rules.specs.Records.{four_colours}
 use Rattle.history.specs.Packing.{colour_part}
-use Rattle.history.specs.Laws.Lists.{paste_more, paste-whole}
+use Rattle.history.proofs.Laws.Lists.{paste_more, paste-whole}
 use Rattle.history.proofs.packing.write_colours.Goals as goal
 
 -- four colours, each as it was read, in their byte

@@ -9,7 +9,7 @@ use lib.Seq.{paste}
 use Rattle.rules.specs.Sizes.{hash_bytes}
 use Rattle.rules.specs.Records.{low_bytes}
 use Rattle.rules.proofs.Laws.Lists.{length-tabulate, get_or-tabulate-zero}
-use Rattle.history.specs.Laws.Lists.{paste_more, paste-whole}
+use Rattle.history.proofs.Laws.Lists.{paste_more, paste-whole}
 use Rattle.history.proofs.packing.write_hash.Invariants.{Written}
 use Rattle.history.proofs.packing.write_hash.Goals as goal
 

@@ -26,7 +26,7 @@ use Rattle.checking.specs.Promise.{Checked, Filled}
 use Rattle.runs.specs.Runs as runs
 use Rattle.runs.specs.Runs.{Call, Reply, Desk, Sound, Alone, Step}
 use Rattle.runs.specs.Orders.{Row, row, first_of, First, clear, this, later, spot_rows, entry_rows, replay_rows, accepted_of, rows_of, Asks, check_rows, board_rows, list_rows, length_rows, question_rows, picture_rows}
-use Rattle.runs.specs.Laws.Orders.{first-exactly, new-order, stone-order, pause-order, handicap-order, entry-all, all_append, replay-order, replay-accepted, check-order, board-order, list-order, question-order, length-order, picture-order}
+use Rattle.runs.proofs.Laws.Orders.{first-exactly, new-order, stone-order, pause-order, handicap-order, entry-all, all_append, replay-order, replay-accepted, check-order, board-order, list-order, question-order, length-order, picture-order}
 
 -- ---- No test is answered with 3
 

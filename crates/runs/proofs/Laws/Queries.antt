@@ -27,7 +27,7 @@ use Rattle.listing.specs.declared.list.Listed.{Listed}
 use Rattle.viewing.specs.declared.shows.Question.{Question}
 use Rattle.listing.specs.Lists as listing
 use Rattle.runs.specs.Alike.{placement_of, AlikeBoards}
-use Rattle.runs.specs.Laws.Asked.{query-alike, filling-alike}
+use Rattle.runs.proofs.Laws.Asked.{query-alike, filling-alike}
 
 abbrev outside : ℕ → ℕ → Placement → Bool
 outside r c p = leb p.height r || leb p.width c

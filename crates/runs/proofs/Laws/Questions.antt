@@ -25,8 +25,8 @@ use Rattle.showing.specs.Promise.{Shown}
 use Rattle.runs.specs.Runs.{Desk, Sound}
 use Rattle.runs.specs.Alike.{Alike, AlikeDesks, placement_of, AlikeBoards}
 use Rattle.runs.specs.Alike as alike
-use Rattle.runs.specs.Laws.Alike.{alike-view}
-use Rattle.runs.specs.Laws.Asked.{left-same, states-alike, desks-alike, boards-alike}
+use Rattle.runs.proofs.Laws.Alike.{alike-view}
+use Rattle.runs.proofs.Laws.Asked.{left-same, states-alike, desks-alike, boards-alike}
 
 -- ---- Two promises of both or neither
 

@@ -27,11 +27,11 @@ use Rattle.runs.specs.Runs.{Call, Reply, Event, Desk, Sound, Step, Fresh, Run, n
 use Rattle.runs.specs.Holds.{Held, history_after, turned_away}
 use Rattle.runs.specs.Orders.{First, Asks, rows_of, accepted_of, check_rows, board_rows, list_rows, question_rows}
 use Rattle.runs.specs.Alike.{Alike, AlikeDesks, SameReply, SameCalls, SameReplies, AlikeBoards}
-use Rattle.runs.specs.Laws.Run as laws
-use Rattle.runs.specs.Laws.Exactly as exactly
-use Rattle.runs.specs.Laws.Refused as refused
-use Rattle.runs.specs.Laws.Alike as alike
-use Rattle.runs.specs.Laws.Asked as asked
+use Rattle.runs.proofs.Laws.Run as laws
+use Rattle.runs.proofs.Laws.Exactly as exactly
+use Rattle.runs.proofs.Laws.Refused as refused
+use Rattle.runs.proofs.Laws.Alike as alike
+use Rattle.runs.proofs.Laws.Asked as asked
 
 -- from a new game on any lent bytes, over any calls
 module _ {first : Desk} (fresh : Fresh first) {events : List Event} {d : Desk} (run : Run first events d) where

@@ -12,10 +12,10 @@ use Rattle.rules.proofs.Laws.Lists.{decided}
 use Rattle.rules.proofs.Laws.Calls.{stone-move}
 use Rattle.runs.specs.Runs.{turn_by, turn_over}
 use Rattle.runs.specs.Orders.{first_of, entry_rows, accepted_of}
-use Rattle.runs.specs.Laws.Lent.{lent-room}
+use Rattle.runs.proofs.Laws.Lent.{lent-room}
 use Rattle.replaying.specs.Laws.Replay.{replay-on, replay-stop}
-use Rattle.runs.specs.Laws.Replay.{entry-entered}
-use Rattle.runs.specs.Laws.Orders.{entry-order}
+use Rattle.runs.proofs.Laws.Replay.{entry-entered}
+use Rattle.runs.proofs.Laws.Orders.{entry-order}
 
 counted-accepts : (t : Bool) (m n : ℕ) → n < cond t (suc m) 0 → t ≡ true
 counted-accepts true m n l = refl

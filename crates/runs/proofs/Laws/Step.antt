@@ -23,8 +23,8 @@ use Rattle.replaying.specs.Laws.Entry.{cond_same}
 use Rattle.runs.specs.Runs as runs
 use Rattle.runs.specs.Runs.{Call, Reply, Desk, Sound, Alone, Step, accepted, turn_over, put_over, turn_after, put_after}
 use Rattle.runs.specs.Holds.{history_after}
-use Rattle.runs.specs.Laws.Lent.{Lent, lent_same, stone-lent}
-use Rattle.runs.specs.Laws.Replay.{Over, replay-over}
+use Rattle.runs.proofs.Laws.Lent.{Lent, lent_same, stone-lent}
+use Rattle.runs.proofs.Laws.Replay.{Over, replay-over}
 
 -- ---- A result of the rules
 

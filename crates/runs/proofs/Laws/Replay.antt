@@ -15,7 +15,7 @@ use Rattle.rules.proofs.Laws.Lists.{decided}
 use Rattle.rules.proofs.Laws.Keep.{pass-true, resign-true, resume-true, stone-keeps}
 use Rattle.replaying.specs.Laws.Replay.{replay-on, replay-stop}
 use Rattle.runs.specs.Runs.{turn_over, put_over}
-use Rattle.runs.specs.Laws.Lent.{Lent, lent_same, lent-on, lent-room, stone-lent}
+use Rattle.runs.proofs.Laws.Lent.{Lent, lent_same, lent-on, lent-room, stone-lent}
 
 -- ---- One accepted entry: whether it changes the turn, whether it puts a stone down
 

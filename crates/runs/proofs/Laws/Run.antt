@@ -20,13 +20,13 @@ use Rattle.game.specs.declared.state.Game.{Game}
 use Rattle.game.specs.View.{view_of, RoomIn}
 use Rattle.replaying.specs.Laws.Entry.{cond_same}
 use Rattle.runs.specs.Runs.{Call, Reply, Event, Desk, Sound, Step, Fresh, Run, start, after, stone, replay, turn_over, turn_after, put_after, turn_in, put_in}
-use Rattle.runs.specs.Laws.Step.{new-field, step-sound, step-lent, step-history, step-turn, step-black, step-white}
+use Rattle.runs.proofs.Laws.Step.{new-field, step-sound, step-lent, step-history, step-turn, step-black, step-white}
 use Rattle.runs.specs.Holds.{Held, history_after}
-use Rattle.runs.specs.Laws.Table.{board-table}
+use Rattle.runs.proofs.Laws.Table.{board-table}
 use Rattle.runs.specs.Orders.{First, rows_of, accepted_of}
-use Rattle.runs.specs.Laws.Moves.{replay-moves, replay-cut}
-use Rattle.runs.specs.Laws.Exactly.{step-exactly, step-damaged, step-entries, asks-sound}
-use Rattle.runs.specs.Laws.Stone.{step_move, step-spares}
+use Rattle.runs.proofs.Laws.Moves.{replay-moves, replay-cut}
+use Rattle.runs.proofs.Laws.Exactly.{step-exactly, step-damaged, step-entries, asks-sound}
+use Rattle.runs.proofs.Laws.Stone.{step_move, step-spares}
 
 -- a field of the game at the start of a run
 fresh-field : {A : Type 0} (f : rules.Game → A) (x : A) (d : Desk) → ((h w flags : ℕ) → f (fresh_game h w flags) ≡ x) → Fresh d → f (view_of d.game) ≡ x

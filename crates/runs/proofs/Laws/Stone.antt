@@ -19,7 +19,7 @@ use Rattle.rules.proofs.Laws.Move.{own-after}
 use Rattle.board.specs.Board.{colours_of}
 use Rattle.game.specs.View.{view_of}
 use Rattle.runs.specs.Runs.{Reply, Desk, Sound, Step, accepted, stone}
-use Rattle.runs.specs.Laws.Step.{stone-field}
+use Rattle.runs.proofs.Laws.Step.{stone-field}
 
 -- with SUICIDE set, the new stone and all of its colour stand after the captures
 own-spared :

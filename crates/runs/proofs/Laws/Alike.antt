@@ -14,7 +14,7 @@ use Rattle.runs.specs.Runs.{Call, Reply, Event, Desk, Sound, Alone, Step, Run, s
 use Rattle.runs.specs.Alike as alike
 use Rattle.runs.specs.Alike.{is_replay, Alike, AlikeDesks, SameReply, SameCalls, SameReplies}
 use Rattle.checking.specs.Laws.State.{state-or-not}
-use Rattle.runs.specs.Laws.Decide.{sound-told}
+use Rattle.runs.proofs.Laws.Decide.{sound-told}
 
 -- ---- An equivalence
 
@@ -168,6 +168,8 @@ pub runs-alike :
     {first first' : Desk} → AlikeDesks first first' → {events events' : List Event} {d e : Desk} → Run first events d → Run first' events' e →
     SameCalls events events' → SameReplies events events' × AlikeDesks d e
 runs-alike like start start alike.begin = (alike.begin, like)
+runs-alike like start (after y run' s') calls = elim calls [ ]
+runs-alike like (after x run s) start calls = elim calls [ ]
 runs-alike like (after {d} {d'} x run s) (after {d = e} {d' = e'} y run' s') (alike.more c calls) =
     let (replies, so_far) = runs-alike like run run' calls in
     let both =

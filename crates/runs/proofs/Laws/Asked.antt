@@ -27,8 +27,8 @@ use Rattle.runs.specs.Runs.{Desk, Sound}
 use Rattle.runs.specs.Alike.{Alike, AlikeDesks, placement_of, AlikeBoards}
 use Rattle.runs.specs.Alike as alike
 use Rattle.checking.specs.Laws.State.{state-or-not}
-use Rattle.runs.specs.Laws.Decide.{sound-told}
-use Rattle.runs.specs.Laws.Alike.{alike-back, alike-view, alike-true, sound-alike, desks-back}
+use Rattle.runs.proofs.Laws.Decide.{sound-told}
+use Rattle.runs.proofs.Laws.Alike.{alike-back, alike-view, alike-true, sound-alike, desks-back}
 
 -- ---- The facts of a game
 
