@@ -1,4 +1,4 @@
-/* Samtrekhu, a Go referee: the calls of the proved static library target/staticlib/libborder.a, which `rt staticlib border` writes.
+/* Samtrekhu, a Go referee: the calls of the proved static library crates/border/out/libborder.a, which `rt lib` writes there.
  * C99, also for C++. Link the archive and nothing else: it asks the C library for memcpy and memset alone.
  *
  * STATES. A game and a board are structs of integers, and hold no pointer: they can be copied, kept and thrown away as any number can. Any

@@ -105,13 +105,13 @@ pub fn list(items: impl Iterator<Item = String>) -> String {
 pub fn call(call: &Call, lent: u128) -> String {
     match call {
         Call::New(height, width, flags, bytes) => format!("(starts {height} {width} {flags} {})", bytes.unwrap_or(lent)),
-        Call::Handicap(points) => format!("(handicapOn {})", list(points.iter().map(|(row, column)| format!("spot {row} {column}")))),
-        Call::Stone(row, column) => format!("(stoneAt {row} {column})"),
+        Call::Handicap(points) => format!("(handicap_on {})", list(points.iter().map(|(row, column)| format!("spot {row} {column}")))),
+        Call::Stone(row, column) => format!("(stone_at {row} {column})"),
         Call::Pass => "passes".to_string(),
         Call::ResignBlack => "(resigns 1)".to_string(),
         Call::ResignWhite => "(resigns 2)".to_string(),
         Call::Resume => "resumes".to_string(),
-        Call::Check(row, column, flags) => format!("(checksAt {row} {column} {flags})"),
+        Call::Check(row, column, flags) => format!("(checks_at {row} {column} {flags})"),
         Call::Legals(flags) => format!("(lists {flags})"),
         Call::Render => "draws".to_string(),
     }

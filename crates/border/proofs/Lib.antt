@@ -1,4 +1,0 @@
--- What the walks by hand share.
-mod Answer
-mod Stores
-mod Alone
