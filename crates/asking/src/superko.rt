@@ -24,7 +24,7 @@ use queries::goban::TestAnswer;
 pub fn is_superko_at(game: Game, history: &[u8], row: u8, column: u8) -> TestAnswer
     ensures { Tested (TrueState game × RoomIn game (length history.now)) (off_board (view_of game) row column) (superko_at (view_of game) history.now row column) result }
 {
-    let found = judged(game.board);
+    let found = judged(&game.board);
     let clock = clock_of(game);
     if !numbers_fit_with(
         found,
@@ -39,7 +39,7 @@ pub fn is_superko_at(game: Game, history: &[u8], row: u8, column: u8) -> TestAns
         };
     }
     let mut colours = [EMPTY; MAX_AREA];
-    let sight = look_at(game.board, &mut colours, 0, row, column);
+    let sight = look_at(&game.board, &mut colours, 0, row, column);
     let spot = spot_of(&colours, sight.height, sight.width, row, column);
     match spot {
         Spot::Off => TestAnswer {

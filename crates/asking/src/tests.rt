@@ -57,7 +57,7 @@ fn holds(
 fn asked(game: Game, row: u8, column: u8, test: Test) -> TestAnswer
     ensures { Tested (TrueState game) (off_board (view_of game) row column) (tested_at (view_of game) row column test) result }
 {
-    let found = judged(game.board);
+    let found = judged(&game.board);
     let clock = clock_of(game);
     if !numbers_fit(found, game.board.height, game.board.width, clock) {
         return TestAnswer {
@@ -66,7 +66,7 @@ fn asked(game: Game, row: u8, column: u8, test: Test) -> TestAnswer
         };
     }
     let mut colours = [EMPTY; MAX_AREA];
-    let sight = look_at(game.board, &mut colours, 0, row, column);
+    let sight = look_at(&game.board, &mut colours, 0, row, column);
     let spot = spot_of(&colours, sight.height, sight.width, row, column);
     match spot {
         Spot::Off => TestAnswer {

@@ -41,12 +41,12 @@ fn stones_in(chain: Chain, colour: u8) -> u32
     0
 }
 
-// Most slots are free, and of a free one the count alone is read.
-pub fn judged(board: Board) -> Verdict
-    ensures sound { result.good ≡ true → TrueBoard board }
-    ensures complete { TrueBoard board → result.good ≡ true }
-    ensures blacks { result.black ≡ cond result.good (stones (colours_of board) black) 0 }
-    ensures whites { result.white ≡ cond result.good (stones (colours_of board) white) 0 }
+// Most slots are free, and of a free one the count alone is read. The board is lent: by value it would be copied.
+pub fn judged(board: &Board) -> Verdict
+    ensures sound { result.good ≡ true → TrueBoard board.now }
+    ensures complete { TrueBoard board.now → result.good ≡ true }
+    ensures blacks { result.black ≡ cond result.good (stones (colours_of board.now) black) 0 }
+    ensures whites { result.white ≡ cond result.good (stones (colours_of board.now) white) 0 }
 {
     let height = board.height;
     let width = board.width;
@@ -112,5 +112,5 @@ pub fn judge(board: Board) -> bool
     ensures sound { result ≡ true → TrueBoard board }
     ensures complete { TrueBoard board → result ≡ true }
 {
-    judged(board).good
+    judged(&board).good
 }

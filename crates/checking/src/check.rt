@@ -16,7 +16,7 @@ use points::sizes::MAX_FLAGS;
 pub fn check_point_by(game: Game, history: &[u8], flags: u8, row: u8, column: u8) -> u8
     ensures { Checked (TrueState game × RoomIn game (length history.now)) (check_answer (view_of game) history.now flags row column) result }
 {
-    let found = judged(game.board);
+    let found = judged(&game.board);
     let clock = clock_of(game);
     if !numbers_fit_with(
         found,
@@ -37,7 +37,7 @@ pub fn check_point_by(game: Game, history: &[u8], flags: u8, row: u8, column: u8
 pub fn check_point(game: Game, history: &[u8], row: u8, column: u8) -> u8
     ensures { Checked (TrueState game × RoomIn game (length history.now)) (check_answer (view_of game) history.now game.flags row column) result }
 {
-    let found = judged(game.board);
+    let found = judged(&game.board);
     let clock = clock_of(game);
     if !numbers_fit_with(
         found,

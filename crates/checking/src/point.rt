@@ -109,7 +109,7 @@ pub fn point_answer(game: Game, history: &[u8], flags: u8, row: u8, column: u8) 
     ensures { result ≡ number (point_answer (view_of game) history.now flags row column) }
 {
     let mut colours = [EMPTY; MAX_AREA];
-    let sight = look_at(game.board, &mut colours, 0, row, column);
+    let sight = look_at(&game.board, &mut colours, 0, row, column);
     let clock = clock_of(game);
     let answer = told_by(sight, &colours, clock, flags, row, column);
     let Told::Answer(number) = answer else {

@@ -79,7 +79,7 @@ pub fn repeats(game: Game, history: &[u8], point: usize) -> bool
     );
     let mut left = [EMPTY; MAX_AREA];
     // what stands beside a point of it is not asked
-    let sight = look_at(laid.board, &mut left, 0, 0, 0);
+    let sight = look_at(&laid.board, &mut left, 0, 0, 0);
     let bytes = record_by(sight.hash, &left);
     is_recorded(history, game.records, &bytes)
 }

@@ -82,7 +82,7 @@ pub fn zobrist_hash(board: Board) -> HashAnswer
 pub fn number_of_stones(board: Board) -> StonesAnswer
     ensures { Answered board false no_stones (stones_of board) result }
 {
-    let found = judged(board);
+    let found = judged(&board);
     if !found.good {
         return StonesAnswer {
             answer: DAMAGED,

@@ -79,7 +79,7 @@ fn is_over(byte: u8, passes: u8) -> bool
 pub fn facts_of(game: Game) -> Facts
     ensures { Asked game result }
 {
-    let found = judged(game.board);
+    let found = judged(&game.board);
     let clock = clock_of(game);
     if !numbers_fit(found, game.board.height, game.board.width, clock) {
         let nothing = Tally { black: 0, white: 0 };

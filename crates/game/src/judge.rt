@@ -100,7 +100,7 @@ pub fn judge_state(game: Game) -> bool
     ensures sound { result ≡ true → TrueState game }
     ensures complete { TrueState game → result ≡ true }
 {
-    let found = judged(game.board);
+    let found = judged(&game.board);
     let clock = clock_of(game);
     numbers_fit(found, game.board.height, game.board.width, clock)
 }
@@ -127,7 +127,7 @@ pub fn judge_with(game: Game, length: usize) -> bool
     ensures sound { result ≡ true → TrueState game × RoomIn game length }
     ensures complete { TrueState game × RoomIn game length → result ≡ true }
 {
-    let found = judged(game.board);
+    let found = judged(&game.board);
     let clock = clock_of(game);
     numbers_fit_with(found, game.board.height, game.board.width, clock, length)
 }

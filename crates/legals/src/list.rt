@@ -126,7 +126,7 @@ fn refusal(height: u8, width: u8, flags: u8, length: usize) -> u8
 pub fn legals_by(game: Game, history: &[u8], flags: u8, buffer: &mut [u16]) -> Listed
     ensures { Filled (TrueState game × RoomIn game (length history.now)) (rules.list_answer (view_of game) flags buffer.old) (rules.legals (view_of game) history.now flags) buffer.old result buffer.new }
 {
-    let found = judged(game.board);
+    let found = judged(&game.board);
     let clock = clock_of(game);
     if !numbers_fit_with(
         found,

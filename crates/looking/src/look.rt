@@ -159,18 +159,18 @@ fn shade(owner: usize, colour: u8) -> u8
 }
 
 // What a true board shows for a stone at a row and a column, and the colours of all points, of which the first `read` are known: a row of stones that take
-// nothing need not read them again. Both loops stand here, since a function for each would copy the board once more. The second
-// reads a slot for every point and chooses after it: a branch there cannot be foreseen, and costs more.
+// nothing need not read them again. The board is lent: by value it would be copied. The second loop reads a slot for every point and chooses after it: a branch
+// there cannot be foreseen, and costs more.
 pub fn look_at(
-    board: Board,
+    board: &Board,
     colours: &mut [u8; MAX_AREA],
     read: usize,
     row: u8,
     column: u8,
 ) -> Sight
-    requires true_board { TrueBoard board }
-    requires partly { Partly board read colours.old }
-    ensures { Sees board row column colours.new result }
+    requires true_board { TrueBoard board.now }
+    requires partly { Partly board.now read colours.old }
+    ensures { Sees board.now row column colours.new result }
 {
     let point = two_to_1dim(board.width, row, column);
     let around = neighbours(board.height, board.width, point);

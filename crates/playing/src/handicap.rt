@@ -23,7 +23,7 @@ pub fn handicap(game: Game, spots: &[u16]) -> Answered
         answer: DAMAGED,
         game: game,
     };
-    let found = judged(answered.game.board);
+    let found = judged(&answered.game.board);
     let clock = clock_of(answered.game);
     if !numbers_fit(
         found,

@@ -144,18 +144,18 @@ pub fn tested(
 
 // The rest of the tests where a capture might bring a recorded board back: the stone is laid on a copy, and the board that it leaves is looked for.
 pub fn settled(
-    board: Board,
+    board: &Board,
     sight: Sight,
     colours: &[u8; MAX_AREA],
     clock: Clock,
     history: &mut [u8],
 ) -> Turn
-    requires { Settling board sight colours.now clock (length history.old) }
-    ensures { (row column : ℕ) → Shown board sight colours.now clock (length history.old) row column → Undecided (game_of board clock) row column → Tested (game_of board clock) history.old row column result history.new }
+    requires { Settling board.now sight colours.now clock (length history.old) }
+    ensures { (row column : ℕ) → Shown board.now sight colours.now clock (length history.old) row column → Undecided (game_of board.now clock) row column → Tested (game_of board.now clock) history.old row column result history.new }
 {
     let numbers = table();
     let laid = lay(
-        board,
+        *board,
         &numbers,
         sight.point,
         player_of(clock.turn),
@@ -163,7 +163,7 @@ pub fn settled(
     );
     let mut left = [EMPTY; MAX_AREA];
     // what stands beside a point of it is not asked
-    let seen = look_at(laid.board, &mut left, 0, 0, 0);
+    let seen = look_at(&laid.board, &mut left, 0, 0, 0);
     let record = record_by(seen.hash, &left);
     let again = is_recorded(history, clock.records, &record);
     finished(sight, colours, clock, history, again)
@@ -209,7 +209,7 @@ pub fn stone(game: Game, history: &mut [u8], row: u8, column: u8) -> Answered
         answer: DAMAGED,
         game: game,
     };
-    let found = judged(answered.game.board);
+    let found = judged(&answered.game.board);
     let clock = clock_of(answered.game);
     let sound = numbers_fit_with(
         found,
@@ -222,10 +222,10 @@ pub fn stone(game: Game, history: &mut [u8], row: u8, column: u8) -> Answered
         return answered;
     }
     let mut colours = [EMPTY; MAX_AREA];
-    let sight = look_at(answered.game.board, &mut colours, 0, row, column);
+    let sight = look_at(&answered.game.board, &mut colours, 0, row, column);
     let mut turn = tested(sight, &colours, clock, history, row, column);
     if turn.undecided {
-        turn = settled(answered.game.board, sight, &colours, clock, history);
+        turn = settled(&answered.game.board, sight, &colours, clock, history);
     }
     answered.answer = turn.answer;
     if turn.answer != ACCEPTED {

@@ -74,10 +74,10 @@ pub fn replay(game: Game, history: &mut [u8], moves: &[Move]) -> Replayed
         while at < moves.len() {
             let entry = moves[at];
             if entry.kind == 0 {
-                let sight = look_at(laid.board, &mut colours, read, entry.row, entry.column);
+                let sight = look_at(&laid.board, &mut colours, read, entry.row, entry.column);
                 let mut turn = tested(sight, &colours, now.clock, history, entry.row, entry.column);
                 if turn.undecided {
-                    turn = settled(laid.board, sight, &colours, now.clock, history);
+                    turn = settled(&laid.board, sight, &colours, now.clock, history);
                 }
                 now.answer = turn.answer;
                 if turn.answer == ACCEPTED {

@@ -21,7 +21,7 @@ use points::answers::{ACCEPTED, DAMAGED};
 pub fn empty_points(game: Game, buffer: &mut [u16]) -> Listed
     ensures { Filled (TrueState game) (list_answer game.board.height game.board.width (length buffer.old) (Coloured empty)) (listed game.board.height game.board.width (colours_of game.board) (Coloured empty)) buffer.old result buffer.new }
 {
-    let found = judged(game.board);
+    let found = judged(&game.board);
     let clock = clock_of(game);
     if !numbers_fit(found, game.board.height, game.board.width, clock) {
         return Listed {
@@ -44,7 +44,7 @@ pub struct BoardAnswer {
 pub fn board_of(game: Game) -> BoardAnswer
     ensures { Shown game result }
 {
-    let found = judged(game.board);
+    let found = judged(&game.board);
     let clock = clock_of(game);
     if !numbers_fit(found, game.board.height, game.board.width, clock) {
         let nothing = empty_board(1, 1);

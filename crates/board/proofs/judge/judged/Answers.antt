@@ -65,7 +65,7 @@ passing-same n q h b w is = rw (n, q, h, b, w) is
 
 -- ---- Before the loop: the start, where both sides are found good, and where the points are well placed
 
-shape : (c : Start) → Shaped c.args.board
+shape : (c : Start) → Shaped c.args.board.now
 shape c = record { owners = search rules; links = search rules; chains = search rules }
 
 abbrev Kept : Board → Verdict → Type 0
@@ -75,19 +75,19 @@ Kept b v =
     × ((v.black ≡ cond v.good (stones (colours_of b) black) 0) × (v.white ≡ cond v.good (stones (colours_of b) white) 0)))
 
 -- where the judgement is no, a refusal is the truth
-refused : (c : Start) → judged c.args.board ≡ false → Kept c.args.board (record { good = false; black = 0; white = 0 })
-refused c e = let (sound, complete) = judged-true c.args.board (shape c) in (λ t. sound (e ∙ t), (λ is. sym e ∙ complete is, (refl, refl)))
+refused : (c : Start) → judged c.args.board.now ≡ false → Kept c.args.board.now (record { good = false; black = 0; white = 0 })
+refused c e = let (sound, complete) = judged-true c.args.board.now (shape c) in (λ t. sound (e ∙ t), (λ is. sym e ∙ complete is, (refl, refl)))
 
-tall : (c : Else-not-is_side-2) → side_ok c.args.board.height ≡ true
+tall : (c : Else-not-is_side-2) → side_ok c.args.board.now.height ≡ true
 tall c = sym c.is_side.ensures ∙ c.if-not-is_side.false
 
-wide : (c : Else-not-is_side-2) → side_ok c.args.board.width ≡ true
+wide : (c : Else-not-is_side-2) → side_ok c.args.board.now.width ≡ true
 wide c = sym c.is_side-2.ensures ∙ c.if-not-is_side-2.false
 
-fits : (c : Else-not-is_side-2) → let b = c.args.board in area b.height b.width ≤ max_area
+fits : (c : Else-not-is_side-2) → let b = c.args.board.now in area b.height b.width ≤ max_area
 fits c = sides-fit _ _ (tall c) (wide c)
 
-on : (c : Else-not-all_placed) → all (placed c.args.board.height c.args.board.width (owner c.args.board)) (below max_area) ≡ true
+on : (c : Else-not-all_placed) → all (placed c.args.board.now.height c.args.board.now.width (owner c.args.board.now)) (below max_area) ≡ true
 unfolding owner owner_in
 on c = sym c.all_placed.ensures ∙ c.if-not-all_placed.false
 
@@ -97,26 +97,26 @@ on c = sym c.all_placed.ensures ∙ c.if-not-all_placed.false
 abbrev past : Chain
 past = record { liberties = []; colour = 0; origin = 0; last = 0; count = 0 }
 
-chain-at : (c : In-loop-slot) → let b = c.args.board in get_or b.chains c.loop-slot.slot past ≡ chain_in b c.loop-slot.slot
+chain-at : (c : In-loop-slot) → let b = c.args.board.now in get_or b.chains c.loop-slot.slot past ≡ chain_in b c.loop-slot.slot
 unfolding chain_in
-chain-at c = let shape_here : Shaped c.args.board = record { owners = search rules; links = search rules; chains = search rules } in
-    let b = c.args.board in
+chain-at c = let shape_here : Shaped c.args.board.now = record { owners = search rules; links = search rules; chains = search rules } in
+    let b = c.args.board.now in
     get_d_default b.chains c.loop-slot.slot past free_chain (omega (arith, (shape_here).chains, c.loop-slot-test.true))
 
 tested : (c : After-chain_good)
-    → let b = c.args.board in
+    → let b = c.args.board.now in
     slot_good b.height b.width (owner b) b.next c.loop-slot.slot (chain_in b c.loop-slot.slot) ≡ c.chain_good.result
 unfolding owner owner_in chain_in
-tested c = let shape_here : Shaped c.args.board = record { owners = search rules; links = search rules; chains = search rules } in let on_here : all (placed c.args.board.height c.args.board.width (owner c.args.board)) (below max_area) ≡ true = sym c.all_placed.ensures ∙ c.if-not-all_placed.false in let chain-at_here : let b = c.args.board in get_or b.chains c.loop-slot.slot past ≡ chain_in b c.loop-slot.slot = let b = c.args.board in get_d_default b.chains c.loop-slot.slot past free_chain (omega (arith, (shape_here).chains, c.loop-slot-test.true)) in
-    judging-chain c.args.board (shape_here) (on_here) c.loop-slot.invariant.0 c.loop-slot-test.true (chain-at_here)
+tested c = let shape_here : Shaped c.args.board.now = record { owners = search rules; links = search rules; chains = search rules } in let on_here : all (placed c.args.board.now.height c.args.board.now.width (owner c.args.board.now)) (below max_area) ≡ true = sym c.all_placed.ensures ∙ c.if-not-all_placed.false in let chain-at_here : let b = c.args.board.now in get_or b.chains c.loop-slot.slot past ≡ chain_in b c.loop-slot.slot = let b = c.args.board.now in get_d_default b.chains c.loop-slot.slot past free_chain (omega (arith, (shape_here).chains, c.loop-slot-test.true)) in
+    judging-chain c.args.board.now (shape_here) (on_here) c.loop-slot.invariant.0 c.loop-slot-test.true (chain-at_here)
     c.if-board-slot-ne0.true
     ∙ sym c.chain_good.ensures.judged
 
 -- ---- After all slots
 
-all_noted : (c : After-loop-slot) → owner_in c.loop-slot.notes ≡ noted c.args.board slots
+all_noted : (c : After-loop-slot) → owner_in c.loop-slot.notes ≡ noted c.args.board.now slots
 unfolding owner owner_in
-all_noted c = let shape_here : Shaped c.args.board = record { owners = search rules; links = search rules; chains = search rules } in let on_here : all (placed c.args.board.height c.args.board.width (owner c.args.board)) (below max_area) ≡ true = sym c.all_placed.ensures ∙ c.if-not-all_placed.false in notes-all c.args.board (shape_here) (on_here) c.loop-slot.invariant.0 c.loop-slot-test.false
+all_noted c = let shape_here : Shaped c.args.board.now = record { owners = search rules; links = search rules; chains = search rules } in let on_here : all (placed c.args.board.now.height c.args.board.now.width (owner c.args.board.now)) (below max_area) ≡ true = sym c.all_placed.ensures ∙ c.if-not-all_placed.false in notes-all c.args.board.now (shape_here) (on_here) c.loop-slot.invariant.0 c.loop-slot-test.false
 
 pub returns-then-not-is_side : goal.returns-then-not-is_side
 returns-then-not-is_side c = let told = refused (goal.at.returns-then-not-is_side c).Start (no-height _ (sym c.is_side.ensures ∙ c.if-not-is_side.true)) in record { sound = told.0; complete = told.1.0; blacks = told.1.1.0; whites = told.1.1.1 }
@@ -136,15 +136,15 @@ pub row_starts-starts-requires : goal.row_starts-starts-requires
 row_starts-starts-requires c = (side-some _ (wide (goal.at.row_starts-starts-requires c).Else-not-is_side-2), fits (goal.at.row_starts-starts-requires c).Else-not-is_side-2)
 
 pub loop-slot-init : goal.loop-slot-init
-loop-slot-init c = (judging-begin c.args.board (shape (goal.at.loop-slot-init c).Start) (on (goal.at.loop-slot-init c).Else-not-all_placed), none_yet c.args.board black, none_yet c.args.board white)
+loop-slot-init c = (judging-begin c.args.board.now (shape (goal.at.loop-slot-init c).Start) (on (goal.at.loop-slot-init c).Else-not-all_placed), none_yet c.args.board.now black, none_yet c.args.board.now white)
 
 pub chain_good-requires : goal.chain_good-requires
 chain_good-requires c =
-    judging-lent c.args.board (shape (goal.at.chain_good-requires c).Start) (on (goal.at.chain_good-requires c).Else-not-all_placed) c.loop-slot.invariant.0 c.loop-slot-test.true c.table-numbers.ensures c.row_starts-starts.ensures (fits (goal.at.chain_good-requires c).Else-not-is_side-2)
+    judging-lent c.args.board.now (shape (goal.at.chain_good-requires c).Start) (on (goal.at.chain_good-requires c).Else-not-all_placed) c.loop-slot.invariant.0 c.loop-slot-test.true c.table-numbers.ensures c.row_starts-starts.ensures (fits (goal.at.chain_good-requires c).Else-not-is_side-2)
 
 pub returns-then-not-chain_good : goal.returns-then-not-chain_good
 returns-then-not-chain_good c =
-    let told = refused (goal.at.returns-then-not-chain_good c).Start (bad-slot c.args.board c.loop-slot.slot c.loop-slot-test.true (tested (goal.at.returns-then-not-chain_good c).After-chain_good ∙ c.if-not-chain_good.true)) in record { sound = told.0; complete = told.1.0; blacks = told.1.1.0; whites = told.1.1.1 }
+    let told = refused (goal.at.returns-then-not-chain_good c).Start (bad-slot c.args.board.now c.loop-slot.slot c.loop-slot-test.true (tested (goal.at.returns-then-not-chain_good c).After-chain_good ∙ c.if-not-chain_good.true)) in record { sound = told.0; complete = told.1.0; blacks = told.1.1.0; whites = told.1.1.1 }
 
 pub overflow_add-black : goal.overflow_add-black
 overflow_add-black c =
@@ -162,14 +162,14 @@ loop-slot-preserved c =
       | then-board-slot-ne0+else-not-chain_good w ↦ (
           let good = w.if-not-chain_good.false in
           passing-same w.notes-is w.queue-is w.hash-is w.black-is w.white-is (
-            judging-used c.args.board (shape (goal.at.loop-slot-preserved c).Start) (on (goal.at.loop-slot-preserved c).Else-not-all_placed) judging low (chain-at (goal.at.loop-slot-preserved c).In-loop-slot) w.if-board-slot-ne0.true (sym w.chain_good.ensures.judged ∙ good)
+            judging-used c.args.board.now (shape (goal.at.loop-slot-preserved c).Start) (on (goal.at.loop-slot-preserved c).Else-not-all_placed) judging low (chain-at (goal.at.loop-slot-preserved c).In-loop-slot) w.if-board-slot-ne0.true (sym w.chain_good.ensures.judged ∙ good)
                 (w.chain_good.ensures.passed good),
             one_more _ blacks low w.stones_in-black.ensures.counted w.stones_in-black.ensures.few,
             one_more _ whites low w.stones_in-white.ensures.counted w.stones_in-white.ensures.few,
           ))
       | else-board-slot-ne0 w ↦
           passing-same w.notes-is w.queue-is w.hash-is w.black-is w.white-is (
-            judging-free c.args.board (shape (goal.at.loop-slot-preserved c).Start) (on (goal.at.loop-slot-preserved c).Else-not-all_placed) judging low (chain-at (goal.at.loop-slot-preserved c).In-loop-slot) w.if-board-slot-ne0.false,
+            judging-free c.args.board.now (shape (goal.at.loop-slot-preserved c).Start) (on (goal.at.loop-slot-preserved c).Else-not-all_placed) judging low (chain-at (goal.at.loop-slot-preserved c).In-loop-slot) w.if-board-slot-ne0.false,
             no_more _ blacks low w.if-board-slot-ne0.false,
             no_more _ whites low w.if-board-slot-ne0.false,
           )
@@ -180,7 +180,7 @@ all_found-requires c = (c.loop-slot.invariant.0.notes_long, fits (goal.at.all_fo
 
 pub returns-then-not-all_found : goal.returns-then-not-all_found
 returns-then-not-all_found c =
-    let told = refused (goal.at.returns-then-not-all_found c).Start (not_seen c.args.board (ap (seen_good c.args.board) (sym (all_noted (goal.at.returns-then-not-all_found c).After-loop-slot)) ∙ sym c.all_found.ensures ∙ c.if-not-all_found.true)) in record { sound = told.0; complete = told.1.0; blacks = told.1.1.0; whites = told.1.1.1 }
+    let told = refused (goal.at.returns-then-not-all_found c).Start (not_seen c.args.board.now (ap (seen_good c.args.board.now) (sym (all_noted (goal.at.returns-then-not-all_found c).After-loop-slot)) ∙ sym c.all_found.ensures ∙ c.if-not-all_found.true)) in record { sound = told.0; complete = told.1.0; blacks = told.1.1.0; whites = told.1.1.1 }
 
 pub rows_apart-requires : goal.rows_apart-requires
 rows_apart-requires c =
@@ -189,7 +189,7 @@ rows_apart-requires c =
 pub returns-then-not-rows_apart : goal.returns-then-not-rows_apart
 unfolding owner owner_in
 returns-then-not-rows_apart c =
-    let told = refused (goal.at.returns-then-not-rows_apart c).Start (not-rows c.args.board (ap (rows_good c.args.board) (sym (all_noted (goal.at.returns-then-not-rows_apart c).After-loop-slot)) ∙ sym c.rows_apart.ensures ∙ c.if-not-rows_apart.true)) in record { sound = told.0; complete = told.1.0; blacks = told.1.1.0; whites = told.1.1.1 }
+    let told = refused (goal.at.returns-then-not-rows_apart c).Start (not-rows c.args.board.now (ap (rows_good c.args.board.now) (sym (all_noted (goal.at.returns-then-not-rows_apart c).After-loop-slot)) ∙ sym c.rows_apart.ensures ∙ c.if-not-rows_apart.true)) in record { sound = told.0; complete = told.1.0; blacks = told.1.1.0; whites = told.1.1.1 }
 
 pub columns_apart-requires : goal.columns_apart-requires
 columns_apart-requires c =
@@ -198,12 +198,12 @@ columns_apart-requires c =
 pub returns-then-not-columns_apart : goal.returns-then-not-columns_apart
 unfolding owner owner_in
 returns-then-not-columns_apart c =
-    let told = refused (goal.at.returns-then-not-columns_apart c).Start (not-columns c.args.board (ap (columns_good c.args.board) (sym (all_noted (goal.at.returns-then-not-columns_apart c).After-loop-slot)) ∙ sym c.columns_apart.ensures ∙ c.if-not-columns_apart.true)) in record { sound = told.0; complete = told.1.0; blacks = told.1.1.0; whites = told.1.1.1 }
+    let told = refused (goal.at.returns-then-not-columns_apart c).Start (not-columns c.args.board.now (ap (columns_good c.args.board.now) (sym (all_noted (goal.at.returns-then-not-columns_apart c).After-loop-slot)) ∙ sym c.columns_apart.ensures ∙ c.if-not-columns_apart.true)) in record { sound = told.0; complete = told.1.0; blacks = told.1.1.0; whites = told.1.1.1 }
 
-decides : (c : Else-not-columns_apart) → judged c.args.board ≡ eqb c.args.board.hash c.loop-slot.hash
+decides : (c : Else-not-columns_apart) → judged c.args.board.now ≡ eqb c.args.board.now.hash c.loop-slot.hash
 unfolding owner owner_in
-decides c = let tall_here : side_ok c.args.board.height ≡ true = sym c.is_side.ensures ∙ c.if-not-is_side.false in let wide_here : side_ok c.args.board.width ≡ true = sym c.is_side-2.ensures ∙ c.if-not-is_side-2.false in let on_here : all (placed c.args.board.height c.args.board.width (owner c.args.board)) (below max_area) ≡ true = sym c.all_placed.ensures ∙ c.if-not-all_placed.false in let shape_here : Shaped c.args.board = record { owners = search rules; links = search rules; chains = search rules } in let all_noted_here : owner_in c.loop-slot.notes ≡ noted c.args.board slots = notes-all c.args.board (shape_here) (on_here) c.loop-slot.invariant.0 c.loop-slot-test.false in
-    let b = c.args.board in
+decides c = let tall_here : side_ok c.args.board.now.height ≡ true = sym c.is_side.ensures ∙ c.if-not-is_side.false in let wide_here : side_ok c.args.board.now.width ≡ true = sym c.is_side-2.ensures ∙ c.if-not-is_side-2.false in let on_here : all (placed c.args.board.now.height c.args.board.now.width (owner c.args.board.now)) (below max_area) ≡ true = sym c.all_placed.ensures ∙ c.if-not-all_placed.false in let shape_here : Shaped c.args.board.now = record { owners = search rules; links = search rules; chains = search rules } in let all_noted_here : owner_in c.loop-slot.notes ≡ noted c.args.board.now slots = notes-all c.args.board.now (shape_here) (on_here) c.loop-slot.invariant.0 c.loop-slot-test.false in
+    let b = c.args.board.now in
     hash-decides b
     (tall_here)
     (wide_here)
@@ -220,6 +220,6 @@ returns-then-board-hash c = let told = refused (goal.at.returns-then-board-hash 
 pub returns : goal.returns
 unfolding Player
 returns c =
-    let is = (judged-true c.args.board (shape (goal.at.returns c).Start)).0 (decides (goal.at.returns c).Else-not-columns_apart ∙ eq-eqb _ _ c.if-board-hash.false) in
+    let is = (judged-true c.args.board.now (shape (goal.at.returns c).Start)).0 (decides (goal.at.returns c).Else-not-columns_apart ∙ eq-eqb _ _ c.if-board-hash.false) in
     let all : c.loop-slot.slot ≡ slots = omega (arith, c.loop-slot.invariant.0.within, c.loop-slot-test.false) in
     record { sound = λ t. is; complete = λ t. refl; blacks = all_told c.loop-slot.invariant.1 all is (inl refl); whites = all_told c.loop-slot.invariant.2 all is (inr refl) }

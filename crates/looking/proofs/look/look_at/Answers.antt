@@ -29,7 +29,7 @@ place_low c = omega (arith, c.loop-side-test.true, c.neighbours-around.ensures.f
 -- the point beside is on the board
 point-on : (c : After-index-q) → c.index-q.result < max_area
 point-on c =
-    let b = c.args.board in
+    let b = c.args.board.now in
     let on : get_or c.neighbours-around.result.points c.loop-side.side 0 < area b.height b.width =
     around-on b.height b.width c.two_to_1dim-point.result c.neighbours-around.result c.neighbours-around.ensures c.loop-side.side c.loop-side-test.true in
     omega (arith, on, c.index-q.ensures, area-fits c.requires.true_board.table.size)
@@ -49,10 +49,10 @@ side-in c = omega (arith, c.loop-side-test.true, c.neighbours-around.ensures.few
 
 -- what is seen is what the table says of the point beside
 shown : (c : Joined-owner-lt-SLOTS)
-    → let b = c.args.board in
+    → let b = c.args.board.now in
     c.if-owner-lt-SLOTS.seen ≡ chain_seen (chain_in b (owner b c.index-q.result))
 shown c =
-    let b = c.args.board in
+    let b = c.args.board.now in
     let q = c.index-q.result in
     let on : get_or c.neighbours-around.result.points c.loop-side.side 0 < area b.height b.width =
     around-on b.height b.width c.two_to_1dim-point.result c.neighbours-around.result c.neighbours-around.ensures c.loop-side.side c.loop-side-test.true in
@@ -85,7 +85,7 @@ loop-side-smaller c = omega (arith, c.loop-side-test.true)
 
 pub loop-side-preserved : goal.loop-side-preserved
 loop-side-preserved c =
-    let b = c.args.board in
+    let b = c.args.board.now in
     let is = c.requires.true_board in
     let q = c.index-q.result in
     let here = c.index-q.ensures in
@@ -127,7 +127,7 @@ loop-p-smaller c = omega (arith, c.loop-p-test.true)
 
 pub loop-p-preserved : goal.loop-p-preserved
 loop-p-preserved c =
-    let b = c.args.board in
+    let b = c.args.board.now in
     let is = c.requires.true_board in
     let p = c.loop-p.p in
     let low = place (goal.at.loop-p-preserved c).In-loop-p in
@@ -137,7 +137,7 @@ loop-p-preserved c =
 pub returns : goal.returns
 unfolding near_of on_largest at
 returns c =
-    let b = c.args.board in
+    let b = c.args.board.now in
     record {
       height = refl;
       width = refl;

@@ -18,7 +18,7 @@ lay-laid-requires c =
     let a = c.args in
     let is = c.requires.shown in
     let w = c.requires.waits in record {
-      laying = laying (game_of a.board a.clock) a.history.now c.requires.row c.requires.column is.state is.room w.told w.its _ refl w.passes
+      laying = laying (game_of a.board.now a.clock) a.history.now c.requires.row c.requires.column is.state is.room w.told w.its _ refl w.passes
           is.sees.point c.player_of.ensures;
       numbers = c.table-numbers.ensures;
     }
@@ -43,17 +43,17 @@ is_recorded-again-requires c =
 pub finished-requires : goal.finished-requires
 finished-requires c =
     let a = c.args in
-    shown-ready a.board a.sight a.colours.now a.clock _ _ _ c.requires.shown
+    shown-ready a.board.now a.sight a.colours.now a.clock _ _ _ c.requires.shown
 
 pub returns : goal.returns
 unfolding game_of
 returns c row column is w =
     let a = c.args in
-    let g = game_of a.board a.clock in
-    finished-tested a.board a.sight a.colours.now a.clock a.history.now row column is w.told w.its w.passes
+    let g = game_of a.board.now a.clock in
+    finished-tested a.board.now a.sight a.colours.now a.clock a.history.now row column is w.told w.its w.passes
     _
     (λ _. c.is_recorded-again.ensures ∙ left-found g a.history.now row column is.state is.room c.lay-laid.result is.sees.point c.player_of.ensures
     c.lay-laid.ensures (left-record (goal.at.returns c).After-record_by-record))
     (λ n. absurd (not-both w.waits n))
     _ _
-    (c.finished.ensures (colours_of a.board) (sees-record a.board is.state.board row column a.colours.now a.sight is.sees))
+    (c.finished.ensures (colours_of a.board.now) (sees-record a.board.now is.state.board row column a.colours.now a.sight is.sees))
