@@ -37,6 +37,7 @@ pub fn relink(next: &mut [u16; MAX_AREA], a: Chain, b: Chain)
 }
 
 // Two chains as one: the lesser origin leads.
+#[tactic(auto, unfolding(crate::specs::Steps::united))]
 pub fn unite(a: Chain, b: Chain) -> Chain
     requires { a.count + b.count < 2 ^ 16 }
     ensures { result ≡ united a b }

@@ -220,6 +220,7 @@ returns-then-board-hash c = let told = refused (goal.at.returns-then-board-hash 
 pub returns : goal.returns
 unfolding Player
 returns c =
-    let is = (judged-true c.args.board.now (shape (goal.at.returns c).Start)).0 (decides (goal.at.returns c).Else-not-columns_apart ∙ eq-eqb _ _ c.if-board-hash.false) in
+    let same : c.args.board.now.hash ≡ c.loop-slot.hash = omega arith in
+    let is = (judged-true c.args.board.now (shape (goal.at.returns c).Start)).0 (decides (goal.at.returns c).Else-not-columns_apart ∙ eq-eqb _ _ same) in
     let all : c.loop-slot.slot ≡ slots = omega (arith, c.loop-slot.invariant.0.within, c.loop-slot-test.false) in
     record { sound = λ t. is; complete = λ t. refl; blacks = all_told c.loop-slot.invariant.1 all is (inl refl); whites = all_told c.loop-slot.invariant.2 all is (inr refl) }

@@ -1,4 +1,7 @@
 -- `first_refusal`: the ways out are the cases of the definition.
+use mathlib.Core.Path.{◌≡◌}
+use mathlib.Core.Bool.{false}
+use borrow.Author.Rules.{rules}
 use Rattle.rules.specs.Answers.{number, accepts, refuse, ◌then◌}
 use Rattle.checking.specs.Told.{first_refusal}
 use Rattle.checking.proofs.refusal.first_refusal.Goals as goal
@@ -13,7 +16,7 @@ returns-then-ko c = rw (c.if-suicide.false, c.if-ko.true)
 
 pub returns-then-eye : goal.returns-then-eye
 unfolding first_refusal ◌then◌ accepts refuse number
-returns-then-eye c = rw (c.if-suicide.false, c.if-ko.false, c.if-eye.true)
+returns-then-eye c = let no-ko : c.args.ko ≡ false = search rules in rw (c.if-suicide.false, no-ko, c.if-eye.true)
 
 pub returns : goal.returns
 unfolding first_refusal ◌then◌ accepts refuse number

@@ -32,7 +32,7 @@ returns c =
           record {
             unput = omega arith;
             unrecorded = c.if-records-ne0.false;
-            unpassed = c.if-passes-ne0.false;
+            unpassed = omega arith;
             undecided = outcome-none _ c.if-outcome-eq-BLACK.false (eqb-false _ _ (not-true _ t));
           };
       complete = λ is. ap not (ne_eqb _ _ (λ e. none-ne-some white (sym is.undecided ∙ outcome-white _ e)));

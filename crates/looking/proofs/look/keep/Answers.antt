@@ -1,5 +1,6 @@
 -- `keep`: one colour is written; what is known follows the two counts.
-use mathlib.Core.Path.{refl}
+use mathlib.Core.Path.{◌≡◌, refl}
+use native.Mathlib.Omega.{arith}
 use borrow.Author.Tests.{eq-eqb, ne_eqb}
 use Rattle.looking.specs.Seen.{known_after}
 use Rattle.looking.proofs.look.keep.Goals as goal
@@ -18,4 +19,5 @@ pub returns : goal.returns
 unfolding known_after
 returns c =
     let a = c.args in
-    record { coloured = refl; known = rw (eq-eqb a.taken 0 c.if-taken-ne0.false, eq-eqb a.lost 0 c.if-lost-ne0.false) refl }
+    let kept : a.lost ≡ 0 = omega arith in
+    record { coloured = refl; known = rw (eq-eqb a.taken 0 c.if-taken-ne0.false, eq-eqb a.lost 0 kept) refl }

@@ -94,7 +94,7 @@ loop-at-preserved c =
     let loop = c.loop-at in
     let going = loop.invariant in
     let far = going.so_far in
-    let zero' = c.if-now-ne-ACCEPTED.false in
+    let zero' : c.if-entry-eq0.now.answer ≡ 0 = omega arith in
     elim c.if-entry-eq0.branch [
       | then-entry-eq0+then-turn-eq-ACCEPTED w ↦ (
           let e = get_or c.args.moves.now loop.at none in
