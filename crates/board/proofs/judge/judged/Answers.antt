@@ -1,7 +1,7 @@
 use mathlib.Core.Path.{◌≡◌, refl, sym, ap, ◌∙◌}
 use mathlib.Core.Bool.{true, false, cond}
 use mathlib.Core.List.{List, []}
-use mathlib.Core.Logic.{inl, inr, ⊎_elim}
+use mathlib.Core.Logic.{inl, inr, ⊎_elim, ◌≢◌}
 use Prim.Native.Nat.{ℕ, ◌+◌, ◌^◌, ◌≤◌, ◌<◌}
 use native.Mathlib.Omega.{arith}
 use lib.Dec.{eqb}
@@ -108,8 +108,9 @@ tested : (c : After-chain_good)
     slot_good b.height b.width (owner b) b.next c.loop-slot.slot (chain_in b c.loop-slot.slot) ≡ c.chain_good.result
 unfolding owner owner_in chain_in
 tested c = let shape_here : Shaped c.args.board.now = record { owners = search rules; links = search rules; chains = search rules } in let on_here : all (placed c.args.board.now.height c.args.board.now.width (owner c.args.board.now)) (below max_area) ≡ true = sym c.all_placed.ensures ∙ c.if-not-all_placed.false in let chain-at_here : let b = c.args.board.now in get_or b.chains c.loop-slot.slot past ≡ chain_in b c.loop-slot.slot = let b = c.args.board.now in get_d_default b.chains c.loop-slot.slot past free_chain (omega (arith, (shape_here).chains, c.loop-slot-test.true)) in
+    let used : (get_or c.args.board.now.chains c.loop-slot.slot past).count ≢ 0 = search rules in
     judging-chain c.args.board.now (shape_here) (on_here) c.loop-slot.invariant.0 c.loop-slot-test.true (chain-at_here)
-    c.if-board-slot-ne0.true
+    used
     ∙ sym c.chain_good.ensures.judged
 
 -- ---- After all slots
