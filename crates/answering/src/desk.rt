@@ -1,16 +1,19 @@
 // A line is answered: it is read, what it says is done, and the reply is ended with a line feed.
+ghost use Rattle.std.specs.Prelude.{◌≤◌, length};
+ghost use Rattle.writing.specs.Put.{Put};
 ghost use Rattle.answering.specs.Does.{Replies};
 
 use acting::act::act;
 use game::state::Game;
-use lines::command::{MAX_LINE, MAX_SPOTS};
+use lines::command::MAX_SPOTS;
 use reading::line::read_line;
-use writing::put::put_byte;
+use writing::text::Text;
 
 // A buffer of this many bytes holds every reply.
-pub const REPLY_BYTES: usize = MAX_LINE + 1;
+pub use writing::text::REPLY_BYTES;
 
-const LINE_FEED: u8 = 10;
+// A line and a reply end with it.
+pub const LINE_FEED: u8 = b'\n';
 
 // The game after the line, how many bytes of history it is to be lent from now on, and how many bytes the reply has.
 #[derive(Clone, Copy)]
@@ -18,6 +21,16 @@ pub struct Replied {
     pub game: Game,
     pub lent: usize,
     pub count: usize,
+}
+
+// The text is put at the front of the lent buffer.
+fn hand_out(text: &Text, out: &mut [u8]) -> usize
+    requires { length text.now.items ≤ length out.old }
+    ensures { Put text.now.items out.old 0 result out.new }
+{
+    let count = text.len();
+    out[..count].copy_from_slice(text.as_slice());
+    count
 }
 
 // Any game, any lent bytes, any line without its line feed, any buffer.
@@ -34,11 +47,12 @@ pub fn answer(game: Game, lent: &mut [u8], line: &[u8], out: &mut [u8]) -> Repli
     }
     let mut spots = [0u16; MAX_SPOTS];
     let read = read_line(line, &mut spots);
-    let told = act(game, lent, read, &spots, line, out);
-    let count = put_byte(out, told.at, LINE_FEED);
-    let after = told.game;
+    let mut text = Text::new();
+    let told = act(game, lent, read, &spots, line, &mut text);
+    text.push(LINE_FEED);
+    let count = hand_out(&text, out);
     Replied {
-        game: after,
+        game: told.game,
         lent: told.lent,
         count,
     }

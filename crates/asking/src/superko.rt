@@ -5,13 +5,11 @@ ghost use Rattle.game.specs.View.{view_of, TrueState, RoomIn};
 ghost use Rattle.asking.specs.Tests.{superko_at};
 ghost use Rattle.asking.specs.Promise.{Tested};
 
-use board::judge::judged;
 use checking::point::is_ko_point;
 use checking::spot::{Spot, spot_of};
-use checking::superko::{Told, repeats, superko_told};
+use checking::superko::{Leave, repeats, superko_told};
 use game::calls::player_of;
-use game::clock::clock_of;
-use game::judge::numbers_fit_with;
+use game::judge::judge_with;
 use game::state::Game;
 use looking::look::look_at;
 use points::answers::{ACCEPTED, DAMAGED, OFF_BOARD};
@@ -19,20 +17,11 @@ use points::sizes::MAX_AREA;
 use points::stones::EMPTY;
 use queries::goban::TestAnswer;
 
-// At a row and a column, of any state. What is asked of an empty point stands here too, since a function for it would copy the state once
-// more.
+// At a row and a column, of any state.
 pub fn is_superko_at(game: Game, history: &[u8], row: u8, column: u8) -> TestAnswer
     ensures { Tested (TrueState game × RoomIn game (length history.now)) (off_board (view_of game) row column) (superko_at (view_of game) history.now row column) result }
 {
-    let found = judged(&game.board);
-    let clock = clock_of(game);
-    if !numbers_fit_with(
-        found,
-        game.board.height,
-        game.board.width,
-        clock,
-        history.len(),
-    ) {
+    if !judge_with(&game, history.len()) {
         return TestAnswer {
             answer: DAMAGED,
             holds: false,
@@ -40,8 +29,7 @@ pub fn is_superko_at(game: Game, history: &[u8], row: u8, column: u8) -> TestAns
     }
     let mut colours = [EMPTY; MAX_AREA];
     let sight = look_at(&game.board, &mut colours, 0, row, column);
-    let spot = spot_of(&colours, sight.height, sight.width, row, column);
-    match spot {
+    match spot_of(&colours, sight.height, sight.width, row, column) {
         Spot::Off => TestAnswer {
             answer: OFF_BOARD,
             holds: false,
@@ -51,23 +39,22 @@ pub fn is_superko_at(game: Game, history: &[u8], row: u8, column: u8) -> TestAns
             holds: false,
         },
         Spot::Empty(point) => {
-            let near = sight.near;
             let told = superko_told(
-                near,
+                sight.near,
                 player_of(game.turn),
                 is_ko_point(game.ko, point),
                 game.records,
             );
-            let Told::Answer(number) = told else {
-                let yes = repeats(game, history, point);
-                return TestAnswer {
-                    answer: ACCEPTED,
-                    holds: yes,
-                };
+            let holds = match told {
+                Err(_) => true,
+                Ok(leave) => match leave {
+                    Leave::Free => false,
+                    Leave::IfNew => repeats(&game, history, point),
+                },
             };
             TestAnswer {
                 answer: ACCEPTED,
-                holds: number != ACCEPTED,
+                holds,
             }
         }
     }

@@ -1,19 +1,16 @@
 // What is asked of a point for the player to move: the tests of the crate's game.rs that need no history, each by itself. No stone is
 // laid on another, so where one stands each answers no.
-ghost use Rattle.std.specs.Prelude.{◌≡◌, length};
-ghost use Rattle.rules.specs.Sizes.{max_area};
+ghost use Rattle.std.specs.Prelude.{◌≡◌};
 ghost use Rattle.rules.specs.Calls.{off_board};
 ghost use Rattle.game.specs.View.{view_of, TrueState};
 ghost use Rattle.asking.specs.Tests.{tested_near, tested_at};
 ghost use Rattle.asking.specs.Promise.{Tested};
 
-use board::judge::judged;
 use checking::point::is_ko_point;
 use checking::spot::{Spot, spot_of};
 use eyes::eye::is_eye;
 use game::calls::player_of;
-use game::clock::clock_of;
-use game::judge::numbers_fit;
+use game::judge::judge_state;
 use game::state::Game;
 use legality::near::{Near, is_ko, is_suicide, will_capture as captures};
 use looking::look::look_at;
@@ -42,7 +39,6 @@ fn holds(
     ko: u16,
     test: Test,
 ) -> bool
-    requires { length colours.now ≡ max_area }
     ensures { result ≡ tested_near near colours.now height width colour ko point test }
 {
     match test {
@@ -54,12 +50,10 @@ fn holds(
 }
 
 // The test at a row and a column, of any state.
-fn asked(game: Game, row: u8, column: u8, test: Test) -> TestAnswer
-    ensures { Tested (TrueState game) (off_board (view_of game) row column) (tested_at (view_of game) row column test) result }
+fn asked(game: &Game, row: u8, column: u8, test: Test) -> TestAnswer
+    ensures { Tested (TrueState game.now) (off_board (view_of game.now) row column) (tested_at (view_of game.now) row column test) result }
 {
-    let found = judged(&game.board);
-    let clock = clock_of(game);
-    if !numbers_fit(found, game.board.height, game.board.width, clock) {
+    if !judge_state(game) {
         return TestAnswer {
             answer: DAMAGED,
             holds: false,
@@ -67,8 +61,7 @@ fn asked(game: Game, row: u8, column: u8, test: Test) -> TestAnswer
     }
     let mut colours = [EMPTY; MAX_AREA];
     let sight = look_at(&game.board, &mut colours, 0, row, column);
-    let spot = spot_of(&colours, sight.height, sight.width, row, column);
-    match spot {
+    match spot_of(&colours, sight.height, sight.width, row, column) {
         Spot::Off => TestAnswer {
             answer: OFF_BOARD,
             holds: false,
@@ -77,10 +70,10 @@ fn asked(game: Game, row: u8, column: u8, test: Test) -> TestAnswer
             answer: ACCEPTED,
             holds: false,
         },
-        Spot::Empty(point) => {
-            let near = sight.near;
-            let yes = holds(
-                near,
+        Spot::Empty(point) => TestAnswer {
+            answer: ACCEPTED,
+            holds: holds(
+                sight.near,
                 &colours,
                 sight.height,
                 sight.width,
@@ -88,12 +81,8 @@ fn asked(game: Game, row: u8, column: u8, test: Test) -> TestAnswer
                 player_of(game.turn),
                 game.ko,
                 test,
-            );
-            TestAnswer {
-                answer: ACCEPTED,
-                holds: yes,
-            }
-        }
+            ),
+        },
     }
 }
 
@@ -101,26 +90,26 @@ fn asked(game: Game, row: u8, column: u8, test: Test) -> TestAnswer
 pub fn will_capture(game: Game, row: u8, column: u8) -> TestAnswer
     ensures { Tested (TrueState game) (off_board (view_of game) row column) (tested_at (view_of game) row column Test.Capture) result }
 {
-    asked(game, row, column, Test::Capture)
+    asked(&game, row, column, Test::Capture)
 }
 
 // The crate's `check_suicide`.
 pub fn is_suicide_at(game: Game, row: u8, column: u8) -> TestAnswer
     ensures { Tested (TrueState game) (off_board (view_of game) row column) (tested_at (view_of game) row column Test.Suicide) result }
 {
-    asked(game, row, column, Test::Suicide)
+    asked(&game, row, column, Test::Suicide)
 }
 
 // The crate's `check_ko`.
 pub fn is_ko_at(game: Game, row: u8, column: u8) -> TestAnswer
     ensures { Tested (TrueState game) (off_board (view_of game) row column) (tested_at (view_of game) row column Test.Ko) result }
 {
-    asked(game, row, column, Test::Ko)
+    asked(&game, row, column, Test::Ko)
 }
 
 // The crate's `check_eye`.
 pub fn is_eye_at(game: Game, row: u8, column: u8) -> TestAnswer
     ensures { Tested (TrueState game) (off_board (view_of game) row column) (tested_at (view_of game) row column Test.Eye) result }
 {
-    asked(game, row, column, Test::Eye)
+    asked(&game, row, column, Test::Eye)
 }

@@ -1,7 +1,7 @@
 -- What the judge computes: tests on a board's lists that all say yes exactly on true boards. Those of one slot are over the sizes, the
 -- owner of each point and one chain, so that code that is lent the arrays can promise them.
 use Rattle.std.specs.Prelude.{◌≡◌, Bool, cond, not, ◌&&◌, ◌||◌, List, ℕ, ◌+◌, ◌≤◌, ◌<◌, eqb, ltb, leb, length}
-use Rattle.rules.specs.Sizes.{max_area, slots, hash_entries}
+use Rattle.rules.specs.Sizes.{max_area, slots}
 use Rattle.rules.specs.Lists.{all, count, below, same, tabulate}
 use Rattle.rules.specs.Points.{area}
 use Rattle.rules.specs.Colours.{black, white}
@@ -34,13 +34,12 @@ module _ (h w : ℕ) (own : ℕ → ℕ) (next : List ℕ) (s : ℕ) (c : Chain)
   slot_good = not (used c) || chain_good
 
 -- what is lent to judge a slot
-pub record Lent (h w s : ℕ) (next table : List ℕ) (starts : List Bool) (notes queue : List ℕ) (sum : ℕ) : Type 0 where
+pub record Lent (h w s : ℕ) (next : List ℕ) (starts : List Bool) (notes queue : List ℕ) (sum : ℕ) : Type 0 where
   pub low : s < slots
   pub fits : area h w ≤ max_area
   pub links_long : length next ≡ max_area
   pub notes_long : length notes ≡ max_area
   pub queue_long : length queue ≡ max_area
-  pub numbers : table ≡ tabulate entry 0 hash_entries
   pub starting : RowStarts h w starts
   pub hashed : sum ≡ hash_of h w (owner_in notes)
   pub standing : (p : ℕ) → owner_in notes p < slots → p < area h w

@@ -2,4 +2,5 @@
 pub mod Board
 pub mod True
 pub mod Judge
+pub mod Verdict
 pub mod Laws

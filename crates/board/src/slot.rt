@@ -5,11 +5,11 @@ ghost use Rattle.flooding.specs.Flood.{found, Passed};
 ghost use Rattle.board.specs.Judge.{player, chain_good, Lent};
 
 use chains::group::{Chain, index};
-use flooding::flood::flood;
+use flooding::flood::{Ground, flood};
 use flooding::seen::{SEEN_WORDS, liberties_good};
 use owning::owners::owner_at;
 use owning::ring::ring_good;
-use points::sizes::{HASH_ENTRIES, MAX_AREA};
+use points::sizes::MAX_AREA;
 use points::stones::{BLACK, WHITE};
 
 fn is_player(colour: u8) -> bool
@@ -20,7 +20,6 @@ fn is_player(colour: u8) -> bool
 
 pub fn chain_good(
     next: &[u16; MAX_AREA],
-    table: &[u64; HASH_ENTRIES],
     starts: &[bool; MAX_AREA + 1],
     notes: &mut [u16; MAX_AREA],
     queue: &mut [u16; MAX_AREA],
@@ -30,7 +29,7 @@ pub fn chain_good(
     slot: usize,
     chain: Chain,
 ) -> bool
-    requires { Lent height width slot next.now table.now starts.now notes.old queue.old hash.old }
+    requires { Lent height width slot next.now starts.now notes.old queue.old hash.old }
     ensures judged { result ≡ chain_good height width (owner_in notes.old) next.now slot chain }
     ensures passed { result ≡ true → Passed height width (found height width (owner_in notes.old) slot chain.origin) chain.colour notes.old notes.new queue.new hash.new }
 {
@@ -46,9 +45,14 @@ pub fn chain_good(
         return false;
     }
     let mut seen = [0u64; SEEN_WORDS];
-    let stones = flood(
-        table, starts, notes, queue, &mut seen, hash, height, width, slot, colour, origin,
-    );
+    let ground = Ground {
+        starts,
+        height,
+        width,
+        slot,
+        colour,
+    };
+    let stones = flood(&ground, notes, queue, &mut seen, hash, origin);
     if stones != index(chain.count) {
         return false;
     }

@@ -1,8 +1,6 @@
 // Boards made by hand: built from colours, drawn and asked. What it writes is known by heart and stands in `stdout`.
 #![tactic(auto)]
 
-ghost use Rattle.std.specs.Prelude.{◌≡◌, ◌≤◌, length, take};
-
 use board::goban::Board;
 use chains::group::index;
 use counting::goban::number_of_chains;
@@ -19,19 +17,8 @@ use std::io::{Print, Write};
 const PICTURE_BYTES: usize = 4096;
 
 // As many of the bytes as there are.
-fn within(count: usize, buffer: &[u8]) -> usize
-    ensures within { result ≤ length buffer.now }
-    ensures taken { result ≡ length (take result buffer.now) }
-{
-    if count < buffer.len() {
-        return count;
-    }
-    buffer.len()
-}
-
 fn write_front(rt: &impl Print, buffer: &[u8], count: usize) -> io::Result<()> {
-    let end = within(count, buffer);
-    io::writer(rt).write_all(&buffer[..end])
+    io::writer(rt).write_all(&buffer[..count.min(buffer.len())])
 }
 
 fn say(rt: &impl Print, number: usize) -> io::Result<()> {
@@ -72,10 +59,8 @@ fn ask(rt: &impl Print, board: Board, row: u8, column: u8) -> io::Result<()> {
 }
 
 fn say_all(rt: &impl Print, points: &[u16], count: usize) -> io::Result<()> {
-    for (i, &point) in points.iter().enumerate() {
-        if i < count {
-            say(rt, index(point))?;
-        }
+    for &point in points.iter().take(count) {
+        say(rt, index(point))?;
     }
     Ok(())
 }
@@ -94,10 +79,10 @@ fn list(rt: &impl Print, board: Board, row: u8, column: u8) -> io::Result<()> {
 // Black and White by turns on every point.
 fn chequered() -> [u8; MAX_AREA] {
     let mut colours = [BLACK; MAX_AREA];
-    let mut i = 1;
-    while i < MAX_AREA {
-        colours[i] = WHITE;
-        i += 2;
+    for i in 0..MAX_AREA {
+        if i % 2 == 1 {
+            colours[i] = WHITE;
+        }
     }
     colours
 }

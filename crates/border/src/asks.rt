@@ -66,7 +66,7 @@ pub extern "C" fn samtrekhu_is_true_game(game: Game) -> bool
     ensures sound { result ≡ true → TrueState game }
     ensures complete { TrueState game → result ≡ true }
 {
-    judge_state(game)
+    judge_state(&game)
 }
 
 #[unsafe(no_mangle)]
@@ -74,7 +74,7 @@ pub extern "C" fn samtrekhu_is_true_game_with(game: Game, length: usize) -> bool
     ensures sound { result ≡ true → TrueState game × RoomIn game length }
     ensures complete { TrueState game × RoomIn game length → result ≡ true }
 {
-    judge_with(game, length)
+    judge_with(&game, length)
 }
 
 #[unsafe(no_mangle)]

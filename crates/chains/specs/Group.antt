@@ -1,9 +1,8 @@
 -- A chain and its slot in the table: when a slot is used, what stands in a free one, and which slot is the first free.
-use Rattle.std.specs.Prelude.{Bool, true, false, cond, not, List, [], ◌∷◌, ◌≡◌, ℕ, suc, ◌<◌, eqb, length, get_or}
+use Rattle.std.specs.Prelude.{Bool, true, false, not, List, ◌≡◌, ℕ, ◌<◌, eqb, length, get_or, Option}
+use Rattle.std.specs.List.{position_from}
 use Rattle.rules.specs.Colours.{empty}
 use Rattle.chains.specs.declared.group.Chain.{Chain}
-use Rattle.chains.specs.declared.group.Slot.{Slot}
-use Rattle.chains.specs.declared.group.Slot.TheVariants.{At, Full}
 use Rattle.sets.specs.Liberties.{none}
 
 -- a slot is used exactly if its count is not 0
@@ -18,9 +17,8 @@ unfoldable pub new_chain : ℕ → ℕ → List ℕ → Chain
 new_chain colour p liberties = record { liberties = liberties; colour = colour; origin = p; last = p; count = 1 }
 
 -- the first slot that is not used, the first of the list being slot i
-abbrev pub first_free : ℕ → List Chain → Slot
-first_free i [] = Full
-first_free i (c ∷ cs) = cond (used c) (first_free (suc i) cs) (At i)
+abbrev pub first_free : ℕ → List Chain → Option ℕ
+first_free i cs = position_from (λ c. eqb c.count 0) i cs
 
 -- slot i is free, and all before it are used
 pub record FirstFree (cs : List Chain) (i : ℕ) : Type 0 where

@@ -10,8 +10,7 @@ use Rattle.rules.specs.Calls.{resulting, point_answer}
 use Rattle.board.specs.Board.{colours_of}
 use Rattle.game.specs.declared.state.Game.{Game}
 use Rattle.game.specs.View.{turn_of, view_of, TrueState, RoomIn}
-use Rattle.checking.specs.declared.superko.Told.{Told}
-use Rattle.checking.specs.Told.{settled, undecided}
+use Rattle.checking.specs.Told.{Told, settled, undecided}
 
 -- n is the length of the lent history
 pub record Asking (g : Game) (n p : ℕ) : Type 0 where

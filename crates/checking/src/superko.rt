@@ -6,77 +6,54 @@ ghost use Rattle.rules.specs.Records.{recorded};
 ghost use Rattle.rules.specs.Calls.{resulting};
 ghost use Rattle.legality.specs.Near.{besides, caught, catches_more};
 ghost use Rattle.game.specs.View.{view_of};
-ghost use Rattle.checking.specs.Told.{superko_told, known, undecided};
+ghost use Rattle.checking.specs.Told.{superko_told, told_as};
 ghost use Rattle.checking.specs.Asking.{Repeating};
 
 use game::calls::player_of;
 use game::state::Game;
-use hashing::zobrist::table;
 use history::lent::is_recorded;
 use history::packing::record_by;
 use laying::lay::lay;
 use legality::near::{Near, is_ko, will_capture};
 use looking::look::look_at;
-use points::answers::{ACCEPTED, SUPER_KO};
+use points::answers::Refusal;
 use points::sizes::MAX_AREA;
 use points::stones::EMPTY;
 
-// What is told of a point before any stone is laid: the number that is answered, or that the records decide, between 0 and 8.
+// What the tests that need no history leave of a stone: it is free, or only if the board that it leaves is new.
 #[derive(Clone, Copy)]
-pub enum Told {
-    Answer(u8),
-    IfRecorded,
-}
-
-// The number that is told, 0 where the records decide.
-pub fn known_answer(answer: Told) -> u8
-    ensures { result ≡ known answer }
-{
-    let Told::Answer(number) = answer else {
-        return ACCEPTED;
-    };
-    number
-}
-
-// The records decide.
-pub fn is_undecided(answer: Told) -> bool
-    ensures { result ≡ undecided answer }
-{
-    let Told::Answer(_) = answer else {
-        return true;
-    };
-    false
+pub enum Leave {
+    Free,
+    IfNew,
 }
 
 // The superko test, up to where the stone would have to be laid.
-pub fn superko_told(near: Near, colour: u8, at_ko_point: bool, records: usize) -> Told
-    ensures { result ≡ superko_told (any (caught (other colour)) (besides near)) (at_ko_point && not (any catches_more (besides near))) records }
+pub fn superko_told(
+    near: Near,
+    colour: u8,
+    at_ko_point: bool,
+    records: usize,
+) -> Result<Leave, Refusal>
+    ensures { told_as result ≡ superko_told (any (caught (other colour)) (besides near)) (at_ko_point && not (any catches_more (besides near))) records }
 {
     if records <= 2 {
-        return Told::Answer(ACCEPTED);
+        return Ok(Leave::Free);
     }
     if !will_capture(near, colour) {
-        return Told::Answer(ACCEPTED);
+        return Ok(Leave::Free);
     }
     if is_ko(near, at_ko_point) {
-        return Told::Answer(SUPER_KO);
+        return Err(Refusal::SuperKo);
     }
-    Told::IfRecorded
+    Ok(Leave::IfNew)
 }
 
 // The board that the stone would leave is among the records.
-pub fn repeats(game: Game, history: &[u8], point: usize) -> bool
-    requires { Repeating game (length history.now) point }
-    ensures { result ≡ recorded history.now game.records (resulting (view_of game) point) }
+pub fn repeats(game: &Game, history: &[u8], point: usize) -> bool
+    requires { Repeating game.now (length history.now) point }
+    ensures { result ≡ recorded history.now game.now.records (resulting (view_of game.now) point) }
 {
-    let numbers = table();
-    let laid = lay(
-        game.board,
-        &numbers,
-        point,
-        player_of(game.turn),
-        game.flags,
-    );
+    let laid = lay(game.board, point, player_of(game.turn), game.flags);
     let mut left = [EMPTY; MAX_AREA];
     // what stands beside a point of it is not asked
     let sight = look_at(&laid.board, &mut left, 0, 0, 0);

@@ -1,7 +1,7 @@
-// What is asked of a whole board, by the names of the crate's goban.rs. A query that refuses gives 0 for every value.
-ghost use Rattle.std.specs.Prelude.{false, cond, ◌≡◌};
+// What is asked of a whole board, by the names of the crate's goban.rs. A query that refuses gives 0 for every value. C reads what the queries
+// give, so each is a struct with the answer's number, and no Result.
+ghost use Rattle.std.specs.Prelude.{false, ◌≡◌};
 ghost use Rattle.rules.specs.Chain as rules;
-ghost use Rattle.chains.specs.Group.{used};
 ghost use Rattle.board.specs.Board.{colours_of};
 ghost use Rattle.board.specs.True.{TrueBoard};
 ghost use Rattle.vetting.specs.Answered.{Answered};
@@ -9,9 +9,7 @@ ghost use Rattle.counting.specs.Goban.{no_size, size_of, no_hash, hash_of, no_st
 
 use board::goban::Board;
 use board::judge::judged;
-use chains::group::Chain;
 use points::answers::{ACCEPTED, DAMAGED};
-use points::sizes::SLOTS;
 use vetting::answers::answer_of;
 
 #[repr(C)]
@@ -47,10 +45,9 @@ pub struct ChainsAnswer {
 pub fn size(board: Board) -> SizeAnswer
     ensures { Answered board false no_size (size_of board) result }
 {
-    let answer = answer_of(board);
-    if answer != ACCEPTED {
+    if let Err(refusal) = answer_of(board) {
         return SizeAnswer {
-            answer: answer,
+            answer: refusal.number(),
             height: 0,
             width: 0,
         };
@@ -65,10 +62,9 @@ pub fn size(board: Board) -> SizeAnswer
 pub fn zobrist_hash(board: Board) -> HashAnswer
     ensures { Answered board false no_hash (hash_of board) result }
 {
-    let answer = answer_of(board);
-    if answer != ACCEPTED {
+    if let Err(refusal) = answer_of(board) {
         return HashAnswer {
-            answer: answer,
+            answer: refusal.number(),
             hash: 0,
         };
     }
@@ -82,57 +78,38 @@ pub fn zobrist_hash(board: Board) -> HashAnswer
 pub fn number_of_stones(board: Board) -> StonesAnswer
     ensures { Answered board false no_stones (stones_of board) result }
 {
-    let found = judged(&board);
-    if !found.good {
-        return StonesAnswer {
+    match judged(&board) {
+        None => StonesAnswer {
             answer: DAMAGED,
             black: 0,
             white: 0,
-        };
-    }
-    StonesAnswer {
-        answer: ACCEPTED,
-        black: found.black as usize,
-        white: found.white as usize,
+        },
+        Some(stones) => StonesAnswer {
+            answer: ACCEPTED,
+            black: stones.black as usize,
+            white: stones.white as usize,
+        },
     }
 }
 
-// One chain, if the slot is used.
-fn chain_in(chain: Chain) -> usize
-    ensures { result ≡ cond (used chain) 1 0 }
+fn count_chains(board: &Board) -> usize
+    requires { TrueBoard board.now }
+    ensures { result ≡ rules.chains board.now.height board.now.width (colours_of board.now) }
 {
-    if chain.count == 0 {
-        return 0;
-    }
-    1
-}
-
-fn count_chains(board: Board) -> usize
-    requires { TrueBoard board }
-    ensures { result ≡ rules.chains board.height board.width (colours_of board) }
-{
-    let mut sum = 0;
-    let mut slot = 0;
-    while slot < SLOTS {
-        sum += chain_in(board.chains[slot]);
-        slot += 1;
-    }
-    sum
+    board.chains.iter().filter(|chain| chain.count != 0).count()
 }
 
 pub fn number_of_chains(board: Board) -> ChainsAnswer
     ensures { Answered board false no_chains (chains_of board) result }
 {
-    let answer = answer_of(board);
-    if answer != ACCEPTED {
+    if let Err(refusal) = answer_of(board) {
         return ChainsAnswer {
-            answer: answer,
+            answer: refusal.number(),
             chains: 0,
         };
     }
-    let chains = count_chains(board);
     ChainsAnswer {
         answer: ACCEPTED,
-        chains: chains,
+        chains: count_chains(&board),
     }
 }

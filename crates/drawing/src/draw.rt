@@ -2,8 +2,6 @@
 ghost use Rattle.std.specs.Prelude.{◌≡◌, ◌+◌, ◌≤◌, ◌<◌, length, get_or};
 ghost use Rattle.rules.specs.Sizes.{max_area};
 ghost use Rattle.rules.specs.Lists.{tabulate};
-ghost use Rattle.rules.specs.Points as points;
-ghost use Rattle.rules.specs.Answers as answers;
 ghost use Rattle.rules.specs.Picture as pictures;
 ghost use Rattle.board.specs.Board.{colours_of};
 ghost use Rattle.board.specs.True.{TrueBoard};
@@ -17,37 +15,32 @@ use listing::list::{Listed, length_refusal};
 use points::answers::{ACCEPTED, BAD_LENGTH, DAMAGED};
 use points::coord::{area, two_to_1dim};
 use points::sizes::MAX_AREA;
-use points::stones::{BLACK, WHITE};
+use points::stones::{BLACK, WHITE, colour_at};
 use viewing::view::view_of;
 
 const NEWLINE: u8 = 10;
 
 // Writes the first colours into the buffer.
 fn copy_colours(colours: &[u8; MAX_AREA], end: usize, buffer: &mut [u8])
-    requires { (length colours.now ≡ max_area) × (end ≤ max_area) × (end ≤ length buffer.old) }
+    requires { (end ≤ max_area) × (end ≤ length buffer.old) }
     ensures { Front (tabulate (λ i. get_or colours.now i 0) 0 end) buffer.old end buffer.new }
 {
-    let mut i = 0;
-    while i < end {
-        buffer[i] = colours[i];
-        i += 1;
-    }
+    buffer[..end].copy_from_slice(&colours[..end]);
 }
 
 fn colours_true(board: Board, buffer: &mut [u8]) -> Listed
     requires { TrueBoard board }
     ensures { Left (length_answer board.height board.width (length buffer.old)) (colours_of board) buffer.old result buffer.new }
 {
-    let height = board.height;
-    let width = board.width;
-    let number = length_refusal(height, width, buffer.len());
-    if number != ACCEPTED {
-        return Listed { number, count: 0 };
+    if let Err(reason) = length_refusal(board.height, board.width, buffer.len()) {
+        return Listed {
+            number: reason.number(),
+            count: 0,
+        };
     }
     let view = view_of(board);
-    let colours = view.colours;
-    let end = area(height, width);
-    copy_colours(&colours, end, buffer);
+    let end = area(board.height, board.width);
+    copy_colours(&view.colours, end, buffer);
     Listed {
         number: ACCEPTED,
         count: end,
@@ -68,53 +61,41 @@ pub fn to_vec(board: Board, buffer: &mut [u8]) -> Listed
 }
 
 // The sign of an empty point, by its place.
+#[tactic(auto, unfolding(rules::specs::Picture::grid_sign))]
 fn grid_sign(height: u8, width: u8, row: u8, column: u8) -> u16
     requires { (row < height) × (column < width) }
     ensures value { result ≡ pictures.grid_sign height width row column }
     ensures upper_bound { result < 0x2600 }
 {
-    if row == 0 {
-        if column == 0 {
-            return 0x250F;
-        }
-        if column + 1 == width {
-            return 0x2513;
-        }
-        return 0x252F;
+    let top = row == 0;
+    let bottom = row + 1 == height;
+    let left = column == 0;
+    let right = column + 1 == width;
+    match (top, bottom, left, right) {
+        (true, _, true, _) => 0x250F,
+        (true, _, false, true) => 0x2513,
+        (true, _, false, false) => 0x252F,
+        (false, true, true, _) => 0x2517,
+        (false, true, false, true) => 0x251B,
+        (false, true, false, false) => 0x2537,
+        (false, false, true, _) => 0x2520,
+        (false, false, false, true) => 0x2528,
+        (false, false, false, false) => 0x253C,
     }
-    if row + 1 == height {
-        if column == 0 {
-            return 0x2517;
-        }
-        if column + 1 == width {
-            return 0x251B;
-        }
-        return 0x2537;
-    }
-    if column == 0 {
-        return 0x2520;
-    }
-    if column + 1 == width {
-        return 0x2528;
-    }
-    0x253C
 }
 
 // The sign of a point.
+#[tactic(auto, unfolding(rules::specs::Picture::sign))]
 fn sign(colours: &[u8; MAX_AREA], height: u8, width: u8, row: u8, column: u8) -> u16
-    requires { (length colours.now ≡ max_area) × (points.area height width ≤ max_area) × (row < height) × (column < width) }
+    requires { (row < height) × (column < width) }
     ensures value { result ≡ pictures.sign height width colours.now row column }
     ensures upper_bound { result < 0x2600 }
 {
-    let point = two_to_1dim(width, row, column);
-    let colour = colours[point];
-    if colour == BLACK {
-        return 0x25CF;
+    match colour_at(colours, two_to_1dim(width, row, column)) {
+        BLACK => 0x25CF,
+        WHITE => 0x25CB,
+        _ => grid_sign(height, width, row, column),
     }
-    if colour == WHITE {
-        return 0x25CB;
-    }
-    grid_sign(height, width, row, column)
 }
 
 // Writes a sign's three bytes, and answers the place behind them.
@@ -133,23 +114,16 @@ fn put_sign(buffer: &mut [u8], at: usize, sign: u16) -> usize
 
 // Draws the board, and answers how many bytes that took.
 fn draw(colours: &[u8; MAX_AREA], height: u8, width: u8, buffer: &mut [u8]) -> usize
-    requires { (length colours.now ≡ max_area) × (points.area height width ≤ max_area) × (pictures.picture_bytes height width ≤ length buffer.old) }
+    requires { pictures.picture_bytes height width ≤ length buffer.old }
     ensures { Front (pictures.picture height width colours.now) buffer.old result buffer.new }
 {
-    let mut row: u8 = 0;
-    let mut column: u8 = 0;
     let mut at = 0;
-    while row < height {
-        if column < width {
-            let x = sign(colours, height, width, row, column);
-            at = put_sign(buffer, at, x);
-            column += 1;
-        } else {
-            buffer[at] = NEWLINE;
-            at += 1;
-            row += 1;
-            column = 0;
+    for row in 0..height {
+        for column in 0..width {
+            at = put_sign(buffer, at, sign(colours, height, width, row, column));
         }
+        buffer[at] = NEWLINE;
+        at += 1;
     }
     at
 }
@@ -157,27 +131,23 @@ fn draw(colours: &[u8; MAX_AREA], height: u8, width: u8, buffer: &mut [u8]) -> u
 fn picture_bytes(height: u8, width: u8) -> usize
     ensures { result ≡ pictures.picture_bytes height width }
 {
-    (height as usize) * (3 * (width as usize) + 1)
+    usize::from(height) * (3 * usize::from(width) + 1)
 }
 
 fn picture_true(board: Board, buffer: &mut [u8]) -> Listed
     requires { TrueBoard board }
     ensures { Left (pictures.picture_answer board.height board.width buffer.old) (pictures.picture board.height board.width (colours_of board)) buffer.old result buffer.new }
 {
-    let height = board.height;
-    let width = board.width;
-    if buffer.len() < picture_bytes(height, width) {
+    if buffer.len() < picture_bytes(board.height, board.width) {
         return Listed {
             number: BAD_LENGTH,
             count: 0,
         };
     }
     let view = view_of(board);
-    let colours = view.colours;
-    let count = draw(&colours, height, width, buffer);
     Listed {
         number: ACCEPTED,
-        count,
+        count: draw(&view.colours, board.height, board.width, buffer),
     }
 }
 

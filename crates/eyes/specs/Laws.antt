@@ -1,4 +1,3 @@
 -- What is proved about eyes.
 pub mod Counting
-pub mod Around
 pub mod Eye

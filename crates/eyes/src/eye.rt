@@ -1,70 +1,52 @@
 // The test of eyes, on the colours of the board's points: the crate's `check_eye` and its helper.
-ghost use Rattle.std.specs.Prelude.{cond, ◌||◌, ◌≡◌, ◌≤◌, ◌<◌, eqb, length, get_or, take};
-ghost use Rattle.std.proofs.Math.Option.{none};
-ghost use Rattle.rules.specs.Sizes.{max_area};
-ghost use Rattle.rules.specs.Lists.{count};
+ghost use Rattle.std.specs.Prelude.{◌||◌, ◌≡◌, eqb};
+ghost use Rattle.rules.specs.Lists.{any, all};
 ghost use Rattle.rules.specs.Colours.{at};
-ghost use Rattle.rules.specs.Points.{corners};
+ghost use Rattle.rules.specs.Points.{neighbours};
 ghost use Rattle.rules.specs.Tests as tests;
 ghost use Rattle.eyes.specs.Eye.{scanned};
 
-use points::coord::{Around, Place, corner, neighbours};
+use points::coord::{corners, sides};
 use points::sizes::MAX_AREA;
 use points::stones::{EMPTY, colour_at, other};
 
-// What a corner says: the point is an eye, it is none, or the next corner decides.
-#[derive(Clone, Copy)]
-pub enum Said {
-    Eye,
-    NoEye,
-    Next,
-}
-
-// A point of the list as an index.
-fn listed(points: [u16; 4], i: usize) -> usize
-    requires { i < 4 }
-    ensures { result ≡ get_or points i 0 }
+// All points beside the point have the colour.
+#[tactic(auto, unfolding(rules::specs::Points::neighbours))]
+fn is_surrounded(colours: &[u8; MAX_AREA], height: u8, width: u8, point: usize, colour: u8) -> bool
+    ensures { result ≡ all (λ q. eqb (at colours.now q) colour) (neighbours height width point) }
 {
-    points[i] as usize
+    sides(height, width, point)
+        .iter()
+        .filter_map(|side| *side)
+        .all(|q| colour_at(colours, q) == colour)
 }
 
-// How many of the points around have the colour.
-fn number_of(colours: &[u8; MAX_AREA], around: Around, colour: u8) -> usize
-    requires { (length colours.now ≡ max_area) × (around.count ≤ 4) }
-    ensures { result ≡ count (λ q. eqb (at colours.now q) colour) (take around.count around.points) }
+// Some point beside the point has the colour.
+#[tactic(auto, unfolding(rules::specs::Points::neighbours))]
+fn is_beside(colours: &[u8; MAX_AREA], height: u8, width: u8, point: usize, colour: u8) -> bool
+    ensures { result ≡ any (λ q. eqb (at colours.now q) colour) (neighbours height width point) }
 {
-    let points = around.points;
-    let count = around.count;
-    let mut number = 0;
-    let mut i = 0;
-    while i < count {
-        if colour_at(colours, listed(points, i)) == colour {
-            number += 1;
-        }
-        i += 1;
-    }
-    number
+    sides(height, width, point)
+        .iter()
+        .filter_map(|side| *side)
+        .any(|q| colour_at(colours, q) == colour)
 }
 
-// 1 if the corner in that direction is off the board or has a stone of the colour, else 0.
-fn friendly(
+// The corner is off the board or has a stone of the colour.
+#[tactic(auto, unfolding(rules::specs::Tests::friendly))]
+fn is_friendly(
     colours: &[u8; MAX_AREA],
     height: u8,
     width: u8,
-    point: usize,
-    direction: usize,
+    corner: Option<usize>,
     colour: u8,
-) -> usize
-    requires { length colours.now ≡ max_area }
-    ensures { result ≡ cond (tests.friendly height width colours.now colour (get_or (corners height width point) direction none)) 1 0 }
+) -> bool
+    ensures { result ≡ tests.friendly height width colours.now colour corner }
 {
-    let Place::At(place) = corner(height, width, point, direction) else {
-        return 1;
-    };
-    if colour_at(colours, place) != colour {
-        return 0;
+    match corner {
+        Some(q) => colour_at(colours, q) == colour,
+        None => true,
     }
-    1
 }
 
 // How many of the four corners are so.
@@ -75,14 +57,12 @@ fn friendly_corners(
     point: usize,
     colour: u8,
 ) -> usize
-    requires { length colours.now ≡ max_area }
     ensures { result ≡ tests.friendly_corners height width colours.now colour point }
 {
-    let a = friendly(colours, height, width, point, 0, colour);
-    let b = friendly(colours, height, width, point, 1, colour);
-    let c = friendly(colours, height, width, point, 2, colour);
-    let d = friendly(colours, height, width, point, 3, colour);
-    a + b + c + d
+    corners(height, width, point)
+        .iter()
+        .filter(|corner| is_friendly(colours, height, width, **corner, colour))
+        .count()
 }
 
 fn two_or_three(number: usize) -> bool
@@ -91,66 +71,53 @@ fn two_or_three(number: usize) -> bool
     number == 2 || number == 3
 }
 
-// What the corner in that direction says, where the point is surrounded and has two or three friendly corners.
+// What the corner says, where the point is surrounded and has two or three friendly corners: whether the point is an eye, or nothing.
+#[tactic(auto, unfolding(crate::specs::Eye::scanned, crate::specs::Eye::said, rules::specs::Tests::two_or_three))]
 fn scan(
     colours: &[u8; MAX_AREA],
     height: u8,
     width: u8,
-    point: usize,
-    direction: usize,
+    corner: Option<usize>,
     colour: u8,
-) -> Said
-    requires { length colours.now ≡ max_area }
-    ensures { result ≡ scanned height width colours.now colour (get_or (corners height width point) direction none) }
+) -> Option<bool>
+    ensures { result ≡ scanned height width colours.now colour corner }
 {
-    let Place::At(place) = corner(height, width, point, direction) else {
-        return Said::Next;
-    };
+    let place = corner?;
     if colour_at(colours, place) != EMPTY {
-        return Said::Next;
+        return None;
     }
-    if 0 < number_of(colours, neighbours(height, width, place), other(colour)) {
-        return Said::NoEye;
+    if is_beside(colours, height, width, place, other(colour)) {
+        return Some(false);
     }
     if two_or_three(friendly_corners(colours, height, width, place, colour)) {
-        return Said::Eye;
+        return Some(true);
     }
-    Said::Next
+    None
 }
 
 // The empty corners in order, up to the first that decides.
 fn eye_among(colours: &[u8; MAX_AREA], height: u8, width: u8, point: usize, colour: u8) -> bool
-    requires { length colours.now ≡ max_area }
     ensures { result ≡ tests.eye_among height width colours.now colour (tests.empty_corners height width colours.now point) }
 {
-    let mut direction = 0;
-    while direction < 4 {
-        let answer = scan(colours, height, width, point, direction, colour);
-        match answer {
-            Said::Eye => return true,
-            Said::NoEye => return false,
-            Said::Next => {}
+    for corner in corners(height, width, point) {
+        if let Some(is_eye) = scan(colours, height, width, corner, colour) {
+            return is_eye;
         }
-        direction += 1;
     }
     false
 }
 
 // The point is an eye of the colour. Of the colours only those of the board's points are asked.
+#[tactic(auto, unfolding(rules::specs::Tests::eye, rules::specs::Tests::two_or_three))]
 pub fn is_eye(colours: &[u8; MAX_AREA], height: u8, width: u8, point: usize, colour: u8) -> bool
-    requires { length colours.now ≡ max_area }
     ensures { result ≡ tests.eye height width colours.now colour point }
 {
-    let around = neighbours(height, width, point);
-    if number_of(colours, around, colour) != around.count {
+    if !is_surrounded(colours, height, width, point, colour) {
         return false;
     }
     let friends = friendly_corners(colours, height, width, point, colour);
     if friends == 4 {
         return true;
     }
-    if two_or_three(friends) {
-        return eye_among(colours, height, width, point, colour);
-    }
-    false
+    two_or_three(friends) && eye_among(colours, height, width, point, colour)
 }

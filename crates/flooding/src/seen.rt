@@ -11,11 +11,10 @@ use points::sizes::{LIBERTY_BYTES, MAX_AREA};
 pub const SEEN_WORDS: usize = (MAX_AREA + 63) / 64;
 
 pub fn see(seen: &mut [u64; SEEN_WORDS], point: usize)
-    requires { (length seen.old ≡ seen_words) × (point < max_area) }
+    requires { point < max_area }
     ensures { Saw point seen.old seen.new }
 {
-    let i = point / 64;
-    seen[i] = seen[i] | (1u64 << (point % 64));
+    seen[point / 64] |= 1u64 << (point % 64);
 }
 
 // A byte of a liberty set; beyond the last they are 0.
@@ -23,10 +22,7 @@ fn byte(set: [u8; LIBERTY_BYTES], i: usize) -> u64
     ensures is { result ≡ get_or set i 0 }
     ensures small { result < 0x100 }
 {
-    if LIBERTY_BYTES <= i {
-        return 0;
-    }
-    set[i] as u64
+    if i < LIBERTY_BYTES { set[i] as u64 } else { 0 }
 }
 
 // Two bytes of a liberty set from the i-th on as one number, four, and eight.
@@ -59,13 +55,11 @@ pub fn liberties_good(kept: [u8; LIBERTY_BYTES], seen: [u64; SEEN_WORDS]) -> boo
     ensures { result ≡ lists.same kept (set_of (sees seen)) && ltb 0 (number kept) }
 {
     let mut some = 0u64;
-    let mut i = 0;
-    while i < SEEN_WORDS {
+    for i in 0..SEEN_WORDS {
         if seen[i] != word(kept, 8 * i) {
             return false;
         }
-        some = some | seen[i];
-        i += 1;
+        some |= seen[i];
     }
     some != 0
 }

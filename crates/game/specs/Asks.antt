@@ -1,23 +1,14 @@
 -- What is asked of a game: each fact by the view.
-use Rattle.std.specs.Prelude.{◌≡◌, Bool, true, false, ℕ, leb}
-use Rattle.std.proofs.Math.Option.{Option, none, some}
+use Rattle.std.specs.Prelude.{◌≡◌, Bool, true, false, ℕ, leb, Option, None, Some}
 use Rattle.rules.specs.Answers.{Accepted, Damaged, number}
-use Rattle.points.specs.declared.coord.Place.TheVariants.{Off}
-use Rattle.points.specs.Place.{place_of}
 use Rattle.game.specs.declared.state.Game.{Game}
 use Rattle.game.specs.declared.asks.Facts.{Facts}
-use Rattle.game.specs.declared.asks.Outcome.{Outcome}
-use Rattle.game.specs.declared.asks.Outcome.TheVariants.{Open, Named}
 use Rattle.game.specs.View.{view_of, TrueState}
-
-abbrev pub named_of : Outcome → Option ℕ
-named_of Open = none
-named_of (Named c) = some c
 
 -- a game is over if an outcome stands or two passes
 unfoldable pub is_over : Option ℕ → ℕ → Bool
-is_over none passes = leb 2 passes
-is_over (some c) passes = true
+is_over None passes = leb 2 passes
+is_over (Some c) passes = true
 
 -- the facts of no game
 unfoldable pub no_facts : Facts
@@ -30,8 +21,8 @@ no_facts =
       turn = 0;
       passes = 0;
       prisoners = record { black = 0; white = 0 };
-      ko = Off;
-      outcome = Open;
+      ko = None;
+      outcome = None;
       over = false;
       handicap = 0;
       accepted = 0;
@@ -48,8 +39,8 @@ pub record Told (g : Game) (r : Facts) : Type 0 where
   pub passes : r.passes ≡ (view_of g).passes
   pub black_held : r.prisoners.black ≡ (view_of g).black_held
   pub white_held : r.prisoners.white ≡ (view_of g).white_held
-  pub ko : place_of r.ko ≡ (view_of g).ko_point
-  pub outcome : named_of r.outcome ≡ (view_of g).outcome
+  pub ko : r.ko ≡ (view_of g).ko_point
+  pub outcome : r.outcome ≡ (view_of g).outcome
   pub over : r.over ≡ is_over (view_of g).outcome (view_of g).passes
   pub handicap : r.handicap ≡ (view_of g).handicap
   pub accepted : r.accepted ≡ (view_of g).accepted

@@ -1,13 +1,7 @@
 -- What the judge of a state asks beside the board: numbers in range, sums that hold, and an untouched game where the mark is not set.
-use Rattle.std.specs.Prelude.{◌≡◌, Bool, true, cond, ℕ, ◌+◌, ◌≤◌, ◌<◌}
-use Rattle.std.proofs.Math.Option.{none, some}
+use Rattle.std.specs.Prelude.{◌≡◌, Bool, true, ℕ, ◌+◌, ◌≤◌, ◌<◌, None, Some}
 use Rattle.rules.specs.Sizes.{max_area, max_flags}
-use Rattle.rules.specs.Colours.{black, white}
-use Rattle.rules.specs.Game.{stones}
-use Rattle.board.specs.declared.goban.Board.{Board}
-use Rattle.board.specs.declared.judge.Verdict.{Verdict}
-use Rattle.board.specs.Board.{colours_of}
-use Rattle.board.specs.True.{TrueBoard}
+use Rattle.board.specs.declared.judge.Stones.{Stones}
 use Rattle.game.specs.declared.state.Tally.{Tally}
 use Rattle.game.specs.View.{ko_of, outcome_of}
 
@@ -16,26 +10,14 @@ pub record Decides (r : Bool) (P : Type 0) : Type 0 where
   pub sound : r ≡ true → P
   pub complete : P → r ≡ true
 
--- what the board's judge promises of what it found
-pub record Judged (b : Board) (found : Verdict) : Type 0 where
-  pub sound : found.good ≡ true → TrueBoard b
-  pub complete : TrueBoard b → found.good ≡ true
-  pub blacks : found.black ≡ cond found.good (stones (colours_of b) black) 0
-  pub whites : found.white ≡ cond found.good (stones (colours_of b) white) 0
-
--- the stones of each colour on the board
-pub record Counted (b : Board) (on : Tally) : Type 0 where
-  pub blacks : on.black ≡ stones (colours_of b) black
-  pub whites : on.white ≡ stones (colours_of b) white
-
 pub record InRange (end flags passes ko handicap : ℕ) : Type 0 where
   pub flagged : flags ≤ max_flags
   pub pauses : passes ≤ 2
   pub handicapped : handicap ≤ max_area
-  pub ko_on : (k : ℕ) → ko_of ko ≡ some k → k < end
+  pub ko_on : (k : ℕ) → ko_of ko ≡ Some k → k < end
 
 -- stones put are those on the board and those held, and handicap with accepted stones
-pub record Summed (on held put : Tally) (handicap accepted : ℕ) : Type 0 where
+pub record Summed (on : Stones) (held put : Tally) (handicap accepted : ℕ) : Type 0 where
   pub black_kept : put.black ≡ on.black + held.black
   pub white_kept : put.white ≡ on.white + held.white
   pub both_put : put.black + put.white ≡ handicap + accepted
@@ -45,4 +27,4 @@ pub record Untouched (put : Tally) (records passes outcome : ℕ) : Type 0 where
   pub unput : put.black + put.white ≡ 0
   pub unrecorded : records ≡ 0
   pub unpassed : passes ≡ 0
-  pub undecided : outcome_of outcome ≡ none
+  pub undecided : outcome_of outcome ≡ None

@@ -5,4 +5,5 @@ pub mod Judge
 pub mod After
 pub mod Promise
 pub mod Asks
+pub mod Ticked
 pub mod Laws

@@ -1,6 +1,5 @@
 -- What a game's state shows its players, and when it is true.
-use Rattle.std.specs.Prelude.{Bool, cond, not, ℕ, ◌-◌, ◌^◌, ◌/◌, ◌≤◌, eqb}
-use Rattle.std.proofs.Math.Option.{Option, none, some}
+use Rattle.std.specs.Prelude.{Bool, cond, not, ℕ, ◌-◌, ◌^◌, ◌/◌, ◌≤◌, eqb, Option, None, Some}
 use Rattle.rules.specs.Sizes.{record_bytes}
 use Rattle.rules.specs.Colours.{black, white}
 use Rattle.rules.specs.Game as rules
@@ -13,14 +12,14 @@ unfoldable pub turn_of : ℕ → ℕ
 turn_of x = cond (eqb x white) white black
 
 unfoldable pub outcome_of : ℕ → Option ℕ
-outcome_of x = cond (eqb x black) (some black) (cond (eqb x white) (some white) none)
+outcome_of x = cond (eqb x black) (Some black) (cond (eqb x white) (Some white) None)
 
 -- the number that means no point
 abbrev pub no_point : ℕ
 no_point = 2 ^ 16 - 1
 
 unfoldable pub ko_of : ℕ → Option ℕ
-ko_of x = cond (eqb x no_point) none (some x)
+ko_of x = cond (eqb x no_point) None (Some x)
 
 unfoldable pub begun_of : ℕ → Bool
 begun_of x = not (eqb x 0)

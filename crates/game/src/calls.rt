@@ -1,14 +1,17 @@
 // The calls that need no history: a new game, pass, resign, resume. Each asks nothing of the state that it gets.
 ghost use Rattle.std.specs.Prelude.{◌≡◌, []};
 ghost use Rattle.rules.specs.Calls as rules;
+ghost use Rattle.points.specs.Reason.{answer_of};
+ghost use Rattle.game.specs.Clock.{game_of};
 ghost use Rattle.game.specs.View.{turn_of, view_of, fresh_state};
 ghost use Rattle.game.specs.Promise.{Made, CalledAlone, Ticks};
+ghost use Rattle.game.specs.Ticked.{number_of, after, Vouched};
 
 use crate::clock::{Clock, clock_of, game_of};
 use crate::judge::judge_state;
 use crate::state::{Game, NO_POINT, Tally};
 use board::goban::empty_board;
-use points::answers::{ACCEPTED, BAD_FLAGS, BAD_SIZE, DAMAGED, GAME_PAUSED};
+use points::answers::{ACCEPTED, Refusal, number};
 use points::sizes::{MAX_FLAGS, is_side};
 use points::stones::{BLACK, EMPTY, WHITE, other};
 
@@ -17,13 +20,6 @@ use points::stones::{BLACK, EMPTY, WHITE, other};
 pub struct Answered {
     pub answer: u8,
     pub game: Game,
-}
-
-// What a call gives that leaves the board alone: the answer, and the numbers.
-#[derive(Clone, Copy)]
-pub struct Ticked {
-    pub answer: u8,
-    pub clock: Clock,
 }
 
 // The player whom a byte names.
@@ -37,11 +33,9 @@ pub fn player_of(byte: u8) -> u8
 fn fresh(height: u8, width: u8, flags: u8) -> Game
     ensures { result ≡ fresh_state height width flags }
 {
-    let board = empty_board(height, width);
-    let nothing = Tally { black: 0, white: 0 };
     Game {
-        board: board,
-        flags: flags,
+        board: empty_board(height, width),
+        flags,
         turn: BLACK,
         passes: 0,
         outcome: EMPTY,
@@ -49,93 +43,110 @@ fn fresh(height: u8, width: u8, flags: u8) -> Game
         ko: NO_POINT,
         handicap: 0,
         accepted: 0,
-        held: nothing,
-        put: nothing,
+        held: Tally { black: 0, white: 0 },
+        put: Tally { black: 0, white: 0 },
         records: 0,
     }
 }
 
-// A refused new game is the fresh one of 1 × 1 with flags 0.
-fn refused_new(answer: u8) -> Answered
-    ensures { (result.answer ≡ answer) × (result.game ≡ fresh_state 1 1 0) }
+// Whether there can be such a game: its sides, then its flags.
+fn can_begin(height: u8, width: u8, flags: u8) -> Result<(), Refusal>
+    ensures { answer_of result ≡ rules.new_answer height width flags }
 {
-    let game = fresh(1, 1, 0);
-    Answered {
-        answer: answer,
-        game: game,
+    if !is_side(height) {
+        return Err(Refusal::BadSize);
     }
+    if !is_side(width) {
+        return Err(Refusal::BadSize);
+    }
+    if MAX_FLAGS < flags {
+        return Err(Refusal::BadFlags);
+    }
+    Ok(())
 }
 
+// A refused new game is the fresh one of 1 × 1 with flags 0.
 pub fn new_game(height: u8, width: u8, flags: u8) -> Answered
     ensures { Made height width flags result.answer result.game }
 {
-    if !is_side(height) {
-        return refused_new(BAD_SIZE);
-    }
-    if !is_side(width) {
-        return refused_new(BAD_SIZE);
-    }
-    if MAX_FLAGS < flags {
-        return refused_new(BAD_FLAGS);
-    }
-    let game = fresh(height, width, flags);
+    let asked = can_begin(height, width, flags);
+    let game = match asked {
+        Ok(()) => fresh(height, width, flags),
+        Err(_) => fresh(1, 1, 0),
+    };
     Answered {
-        answer: ACCEPTED,
-        game: game,
+        answer: number(asked),
+        game,
     }
 }
 
 // The three calls on the numbers alone: their promise is for every board with which these make a true state, so that a row of calls judges
 // once and copies no board. More than two passes make none; the test for two takes them too, so that the sum is a byte.
-pub fn passed(clock: Clock) -> Ticked
-    ensures { Ticks (λ g. rules.pass (view_of g) []) clock result.answer result.clock }
+pub fn passed(clock: Clock) -> Result<Clock, Refusal>
+    ensures { Ticks (λ g. rules.pass (view_of g) []) clock (number_of result) (after clock result) }
 {
     if 2 <= clock.passes {
-        return Ticked {
-            answer: GAME_PAUSED,
-            clock: clock,
-        };
+        return Err(Refusal::GamePaused);
     }
     let mover = player_of(clock.turn);
     let next = other(mover);
-    let mut after = clock;
-    after.turn = next;
-    after.passes = clock.passes + 1;
-    after.ko = NO_POINT;
-    after.begun = 1;
-    Ticked {
-        answer: ACCEPTED,
-        clock: after,
-    }
+    // after a pass every point may be taken again
+    let ko = NO_POINT;
+    Ok(Clock {
+        turn: next,
+        passes: clock.passes + 1,
+        ko,
+        begun: 1,
+        ..clock
+    })
 }
 
 // The outcome names the player that the byte names.
-pub fn resigned(clock: Clock, player: u8) -> Ticked
-    ensures { Ticks (λ g. rules.resign (view_of g) [] (turn_of player)) clock result.answer result.clock }
+pub fn resigned(clock: Clock, player: u8) -> Result<Clock, Refusal>
+    ensures { Ticks (λ g. rules.resign (view_of g) [] (turn_of player)) clock (number_of result) (after clock result) }
 {
     if 2 <= clock.passes {
-        return Ticked {
-            answer: GAME_PAUSED,
-            clock: clock,
-        };
+        return Err(Refusal::GamePaused);
     }
-    let mut after = clock;
-    after.outcome = player_of(player);
-    after.begun = 1;
-    Ticked {
-        answer: ACCEPTED,
-        clock: after,
-    }
+    Ok(Clock {
+        outcome: player_of(player),
+        begun: 1,
+        ..clock
+    })
 }
 
-pub fn resumed(clock: Clock) -> Ticked
-    ensures { Ticks (λ g. rules.resume (view_of g) []) clock result.answer result.clock }
+pub fn resumed(clock: Clock) -> Result<Clock, Refusal>
+    ensures { Ticks (λ g. rules.resume (view_of g) []) clock (number_of result) (after clock result) }
 {
-    let mut after = clock;
-    after.passes = 0;
-    Ticked {
-        answer: ACCEPTED,
-        clock: after,
+    Ok(Clock { passes: 0, ..clock })
+}
+
+// The numbers of a true state.
+fn vouched(game: &Game) -> Result<Clock, Refusal>
+    ensures { Vouched game.now result }
+{
+    if !judge_state(game) {
+        return Err(Refusal::Damaged);
+    }
+    Ok(clock_of(game))
+}
+
+// The game with what a call made of its numbers.
+#[tactic(auto, unfolding(rules::specs::Answers::number))]
+fn put_back(game: &Game, ticked: Result<Clock, Refusal>) -> Answered
+    ensures told { result.answer ≡ number_of ticked }
+    ensures given { (clock : Clock) → ticked ≡ Ok clock → result.game ≡ game_of game.now.board clock }
+    ensures kept { (refusal : Refusal) → ticked ≡ Err refusal → result.game ≡ game.now }
+{
+    match ticked {
+        Ok(clock) => Answered {
+            answer: ACCEPTED,
+            game: game_of(game.board, clock),
+        },
+        Err(refusal) => Answered {
+            answer: refusal.number(),
+            game: *game,
+        },
     }
 }
 
@@ -143,50 +154,20 @@ pub fn resumed(clock: Clock) -> Ticked
 pub fn pass(game: Game) -> Answered
     ensures { CalledAlone (rules.pass (view_of game) []) game result.answer result.game }
 {
-    if !judge_state(game) {
-        return Answered {
-            answer: DAMAGED,
-            game: game,
-        };
-    }
-    let ticked = passed(clock_of(game));
-    let after = game_of(game.board, ticked.clock);
-    Answered {
-        answer: ticked.answer,
-        game: after,
-    }
+    put_back(&game, vouched(&game).and_then(passed))
 }
 
 pub fn resign(game: Game, player: u8) -> Answered
     ensures { CalledAlone (rules.resign (view_of game) [] (turn_of player)) game result.answer result.game }
 {
-    if !judge_state(game) {
-        return Answered {
-            answer: DAMAGED,
-            game: game,
-        };
-    }
-    let ticked = resigned(clock_of(game), player);
-    let after = game_of(game.board, ticked.clock);
-    Answered {
-        answer: ticked.answer,
-        game: after,
-    }
+    put_back(
+        &game,
+        vouched(&game).and_then(|clock| resigned(clock, player)),
+    )
 }
 
 pub fn resume(game: Game) -> Answered
     ensures { CalledAlone (rules.resume (view_of game) []) game result.answer result.game }
 {
-    if !judge_state(game) {
-        return Answered {
-            answer: DAMAGED,
-            game: game,
-        };
-    }
-    let ticked = resumed(clock_of(game));
-    let after = game_of(game.board, ticked.clock);
-    Answered {
-        answer: ticked.answer,
-        game: after,
-    }
+    put_back(&game, vouched(&game).and_then(resumed))
 }

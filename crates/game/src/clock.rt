@@ -21,11 +21,9 @@ pub struct Clock {
     pub records: usize,
 }
 
-pub fn clock_of(game: Game) -> Clock
-    ensures { result ≡ clock_of game }
+pub fn clock_of(game: &Game) -> Clock
+    ensures { result ≡ clock_of game.now }
 {
-    let held = game.held;
-    let put = game.put;
     Clock {
         flags: game.flags,
         turn: game.turn,
@@ -35,8 +33,8 @@ pub fn clock_of(game: Game) -> Clock
         ko: game.ko,
         handicap: game.handicap,
         accepted: game.accepted,
-        held: held,
-        put: put,
+        held: game.held,
+        put: game.put,
         records: game.records,
     }
 }
@@ -44,10 +42,8 @@ pub fn clock_of(game: Game) -> Clock
 pub fn game_of(board: Board, clock: Clock) -> Game
     ensures { result ≡ game_of board clock }
 {
-    let held = clock.held;
-    let put = clock.put;
     Game {
-        board: board,
+        board,
         flags: clock.flags,
         turn: clock.turn,
         passes: clock.passes,
@@ -56,8 +52,8 @@ pub fn game_of(board: Board, clock: Clock) -> Game
         ko: clock.ko,
         handicap: clock.handicap,
         accepted: clock.accepted,
-        held: held,
-        put: put,
+        held: clock.held,
+        put: clock.put,
         records: clock.records,
     }
 }

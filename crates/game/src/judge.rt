@@ -1,108 +1,82 @@
 // The judge of a state, of whatever bytes: the board's judge once, which counts the stones too, then the numbers. Its sums are in 64 bits,
-// so that none wraps.
+// so that none wraps. The game is lent: by value it would be copied.
 ghost use Rattle.std.specs.Prelude.{true, ◌≡◌};
-ghost use Rattle.board.specs.declared.goban.Board.{Board};
-ghost use Rattle.game.specs.Clock.{game_of};
+ghost use Rattle.rules.specs.Points as rules;
+ghost use Rattle.board.specs.True.{TrueBoard};
+ghost use Rattle.board.specs.Verdict.{Counted};
 ghost use Rattle.game.specs.View.{TrueState, RoomFor, RoomIn};
-ghost use Rattle.game.specs.Judge.{Decides, Judged, InRange, Summed, Untouched};
+ghost use Rattle.game.specs.Judge.{Decides, InRange, Summed, Untouched};
 
-use crate::clock::{Clock, clock_of};
-use crate::state::{Game, NO_POINT, Tally};
-use board::judge::{Verdict, judged};
+use crate::state::{Game, ko_point, outcome_of};
+use board::judge::{Stones, judged};
 use chains::group::index;
 use points::coord::area;
 use points::sizes::{MAX_AREA, MAX_FLAGS, RECORD_BYTES};
-use points::stones::{BLACK, WHITE};
 
 // Flags, passes and handicap in range, and the ko point none or below the area.
-fn in_range(end: usize, flags: u8, passes: u8, ko: u16, handicap: u16) -> bool
-    ensures { Decides result (InRange end flags passes ko handicap) }
+fn in_range(game: &Game) -> bool
+    ensures { let g = game.now in Decides result (InRange (rules.area g.board.height g.board.width) g.flags g.passes g.ko g.handicap) }
 {
-    if MAX_FLAGS < flags {
+    if MAX_FLAGS < game.flags {
         return false;
     }
-    if 2 < passes {
+    if 2 < game.passes {
         return false;
     }
-    if (MAX_AREA as u16) < handicap {
+    if MAX_AREA < index(game.handicap) {
         return false;
     }
-    if ko == NO_POINT {
-        return true;
+    match ko_point(game.ko) {
+        None => true,
+        Some(point) => point < area(game.board.height, game.board.width),
     }
-    index(ko) < end
 }
 
-fn summed(on: Tally, held: Tally, put: Tally, handicap: u16, accepted: u16) -> bool
-    ensures { Decides result (Summed on held put handicap accepted) }
+fn summed(game: &Game, on: Stones) -> bool
+    ensures { let g = game.now in Decides result (Summed on g.held g.put g.handicap g.accepted) }
 {
-    let black = put.black as u64;
-    let white = put.white as u64;
-    if black != (on.black as u64) + (held.black as u64) {
-        return false;
-    }
-    if white != (on.white as u64) + (held.white as u64) {
-        return false;
-    }
-    black + white == (handicap as u64) + (accepted as u64)
+    let black = u64::from(game.put.black);
+    let white = u64::from(game.put.white);
+    black == u64::from(on.black) + u64::from(game.held.black)
+        && white == u64::from(on.white) + u64::from(game.held.white)
+        && black + white == u64::from(game.handicap) + u64::from(game.accepted)
 }
 
-fn untouched(put: Tally, records: usize, passes: u8, outcome: u8) -> bool
-    ensures { Decides result (Untouched put records passes outcome) }
+fn untouched(game: &Game) -> bool
+    ensures { let g = game.now in Decides result (Untouched g.put g.records g.passes g.outcome) }
 {
-    if put.black != 0 {
-        return false;
-    }
-    if put.white != 0 {
-        return false;
-    }
-    if records != 0 {
-        return false;
-    }
-    if passes != 0 {
-        return false;
-    }
-    if outcome == BLACK {
-        return false;
-    }
-    outcome != WHITE
+    game.put.black == 0
+        && game.put.white == 0
+        && game.records == 0
+        && game.passes == 0
+        && outcome_of(game.outcome).is_none()
 }
 
-// The numbers fit a board of this size of which the board's judge found this: a call that holds a game asks both judges by itself, since a function for both
-// would copy the game once more. The type of `accepted` keeps it at most 65,535; that an untouched game's board is empty follows from the sums.
-pub fn numbers_fit(found: Verdict, height: u8, width: u8, clock: Clock) -> bool
-    ensures { (b : Board) → b.height ≡ height → b.width ≡ width → Judged b found → Decides result (TrueState (game_of b clock)) }
+// The numbers fit the board, on which these stones stand. The type of `accepted` keeps it at most 65,535; that an untouched game's board is empty
+// follows from the sums.
+fn numbers_fit(game: &Game, on: Stones) -> bool
+    ensures { TrueBoard game.now.board → Counted game.now.board on → Decides result (TrueState game.now) }
 {
-    if !found.good {
+    if !in_range(game) {
         return false;
     }
-    let end = area(height, width);
-    if !in_range(end, clock.flags, clock.passes, clock.ko, clock.handicap) {
+    if !summed(game, on) {
         return false;
     }
-    let on = Tally {
-        black: found.black,
-        white: found.white,
+    // read here, so that its type is known to bound it
+    let _accepted = game.accepted;
+    game.begun != 0 || untouched(game)
+}
+
+// Both judges in one.
+pub fn judge_state(game: &Game) -> bool
+    ensures sound { result ≡ true → TrueState game.now }
+    ensures complete { TrueState game.now → result ≡ true }
+{
+    let Some(on) = judged(&game.board) else {
+        return false;
     };
-    let held = clock.held;
-    let put = clock.put;
-    if !summed(on, held, put, clock.handicap, clock.accepted) {
-        return false;
-    }
-    if clock.begun != 0 {
-        return true;
-    }
-    untouched(put, clock.records, clock.passes, clock.outcome)
-}
-
-// Both judges in one, for a call that asks no more, and for a pass, a resignation and a resume, which copy no less if they ask both.
-pub fn judge_state(game: Game) -> bool
-    ensures sound { result ≡ true → TrueState game }
-    ensures complete { TrueState game → result ≡ true }
-{
-    let found = judged(&game.board);
-    let clock = clock_of(game);
-    numbers_fit(found, game.board.height, game.board.width, clock)
+    numbers_fit(game, on)
 }
 
 // A history of this many bytes has room for so many records.
@@ -112,22 +86,10 @@ fn has_room(records: usize, length: usize) -> bool
     records <= length / RECORD_BYTES
 }
 
-// The numbers, for a call that is lent a history of this many bytes.
-pub fn numbers_fit_with(found: Verdict, height: u8, width: u8, clock: Clock, length: usize) -> bool
-    ensures { (b : Board) → b.height ≡ height → b.width ≡ width → Judged b found → Decides result (TrueState (game_of b clock) × RoomIn (game_of b clock) length) }
+// The same for a call that is lent a history of this many bytes.
+pub fn judge_with(game: &Game, length: usize) -> bool
+    ensures sound { result ≡ true → TrueState game.now × RoomIn game.now length }
+    ensures complete { TrueState game.now × RoomIn game.now length → result ≡ true }
 {
-    if !has_room(clock.records, length) {
-        return false;
-    }
-    numbers_fit(found, height, width, clock)
-}
-
-// Both judges in one, for such a call.
-pub fn judge_with(game: Game, length: usize) -> bool
-    ensures sound { result ≡ true → TrueState game × RoomIn game length }
-    ensures complete { TrueState game × RoomIn game length → result ≡ true }
-{
-    let found = judged(&game.board);
-    let clock = clock_of(game);
-    numbers_fit_with(found, game.board.height, game.board.width, clock, length)
+    has_room(game.records, length) && judge_state(game)
 }

@@ -1,5 +1,10 @@
 // A game by value. Every byte of `turn`, `outcome` and `begun` means something, so that a host can hand over any bytes at all.
+ghost use Rattle.std.specs.Prelude.{◌≡◌};
+ghost use Rattle.game.specs.View.{ko_of, outcome_of};
+
 use board::goban::Board;
+use chains::group::index;
+use points::stones::{BLACK, WHITE};
 
 // No ko point stands.
 pub const NO_POINT: u16 = u16::MAX;
@@ -35,4 +40,22 @@ pub struct Game {
     pub put: Tally,
     // how many records the history holds
     pub records: usize,
+}
+
+// The ko point that the number stands for.
+pub(crate) fn ko_point(ko: u16) -> Option<usize>
+    ensures { result ≡ ko_of ko }
+{
+    if ko == NO_POINT {
+        return None;
+    }
+    Some(index(ko))
+}
+
+// The player whom the byte names.
+#[tactic(auto, unfolding(crate::specs::View::outcome_of))]
+pub(crate) fn outcome_of(byte: u8) -> Option<u8>
+    ensures { result ≡ outcome_of byte }
+{
+    (byte == BLACK || byte == WHITE).then_some(byte)
 }

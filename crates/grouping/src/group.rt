@@ -1,20 +1,20 @@
 // What is asked of the chain at a point, by the names of the crate's group.rs. At an empty point there is none.
 ghost use Rattle.std.specs.Prelude.{◌||◌, ◌≡◌};
-ghost use Rattle.sets.specs.Liberties.{has};
 ghost use Rattle.vetting.specs.Answered.{Answered, off_board};
 ghost use Rattle.queries.specs.Goban.{no_test};
 ghost use Rattle.grouping.specs.Group.{no_chain, told, chain_of, liberty_at};
 
 use board::goban::Board;
-use chains::group::{Chain, index};
+use chains::group::Chain;
 use points::answers::ACCEPTED;
 use points::coord::two_to_1dim;
 use points::stones::EMPTY;
-use queries::goban::{Owner, TestAnswer, owner_at};
+use queries::goban::{TestAnswer, owner_at};
 use sets::liberties::{contains_liberty as contains, number_of_liberties};
 use vetting::answers::{answer_at, answer_at_both};
 
 // The chain at a point, if one is present: its colour, its stones, its liberties, whether it has exactly one, and its least point.
+// C reads it, so it has a flag and 0 for every value, and is no Option.
 #[repr(C)]
 #[derive(Clone, Copy)]
 pub struct ChainAnswer {
@@ -27,11 +27,12 @@ pub struct ChainAnswer {
     pub origin: usize,
 }
 
+#[tactic(auto, unfolding(crate::specs::Group::no_chain))]
 fn no_chain(answer: u8) -> ChainAnswer
     ensures { result ≡ no_chain answer }
 {
     ChainAnswer {
-        answer: answer,
+        answer,
         present: false,
         colour: EMPTY,
         stones: 0,
@@ -42,44 +43,33 @@ fn no_chain(answer: u8) -> ChainAnswer
 }
 
 // What a slot tells of its chain.
+#[tactic(auto, unfolding(crate::specs::Group::told, rules::specs::Answers::number))]
 fn tell(chain: Chain) -> ChainAnswer
     ensures { result ≡ told chain }
 {
-    let set = chain.liberties;
-    let stones = index(chain.count);
-    let liberties = number_of_liberties(set);
-    let atari = liberties == 1;
-    let origin = index(chain.origin);
+    let liberties = number_of_liberties(chain.liberties);
     ChainAnswer {
         answer: ACCEPTED,
         present: true,
         colour: chain.colour,
-        stones: stones,
-        liberties: liberties,
-        atari: atari,
-        origin: origin,
+        stones: usize::from(chain.count),
+        liberties,
+        atari: liberties == 1,
+        origin: usize::from(chain.origin),
     }
 }
 
 pub fn chain_at(board: Board, row: u8, column: u8) -> ChainAnswer
     ensures { Answered board (off_board board row column) no_chain (chain_of board row column) result }
 {
-    let answer = answer_at(board, row, column);
-    if answer != ACCEPTED {
-        return no_chain(answer);
+    if let Err(refusal) = answer_at(board, row, column) {
+        return no_chain(refusal.number());
     }
     let point = two_to_1dim(board.width, row, column);
-    let Owner::Slot(slot) = owner_at(&board.owners, point) else {
-        return no_chain(ACCEPTED);
-    };
-    tell(board.chains[slot])
-}
-
-fn has_liberty(chain: Chain, point: usize) -> bool
-    ensures { result ≡ has chain.liberties point }
-{
-    let set = chain.liberties;
-    contains(set, point)
+    match owner_at(&board.owners, point) {
+        Some(slot) => tell(board.chains[slot]),
+        None => no_chain(ACCEPTED),
+    }
 }
 
 // The second point is a liberty of the chain at the first.
@@ -92,24 +82,22 @@ pub fn contains_liberty(
 ) -> TestAnswer
     ensures { Answered board (off_board board row column || off_board board other_row other_column) no_test (liberty_at board row column other_row other_column) result }
 {
-    let answer = answer_at_both(board, row, column, other_row, other_column);
-    if answer != ACCEPTED {
+    if let Err(refusal) = answer_at_both(board, row, column, other_row, other_column) {
         return TestAnswer {
-            answer: answer,
+            answer: refusal.number(),
             holds: false,
         };
     }
     let point = two_to_1dim(board.width, row, column);
-    let Owner::Slot(slot) = owner_at(&board.owners, point) else {
+    let Some(slot) = owner_at(&board.owners, point) else {
         return TestAnswer {
             answer: ACCEPTED,
             holds: false,
         };
     };
     let other = two_to_1dim(board.width, other_row, other_column);
-    let holds = has_liberty(board.chains[slot], other);
     TestAnswer {
         answer: ACCEPTED,
-        holds: holds,
+        holds: contains(board.chains[slot].liberties, other),
     }
 }

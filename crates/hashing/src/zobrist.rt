@@ -8,7 +8,7 @@ use points::sizes::{HASH_ENTRIES, MAX_AREA};
 use points::stones::{BLACK, EMPTY};
 
 // each entry is the former × 6364136223846793005 + 1442695040888963407, modulo 2^64
-const ZOBRIST: [u64; HASH_ENTRIES] = [
+static ZOBRIST: [u64; HASH_ENTRIES] = [
     0x14057b7ef767814f,
     0x1a08ee1184ba6d32,
     0x9af678222e728119,
@@ -733,17 +733,16 @@ const ZOBRIST: [u64; HASH_ENTRIES] = [
     0xfed50f19e17513c2,
 ];
 
-// The whole table. A constant array is laid out anew wherever it is named, so whoever reads many entries calls this once.
-pub fn table() -> [u64; HASH_ENTRIES]
-    ensures { result ≡ tabulate entry 0 hash_entries }
+// The table, which stands once in the program and is lent from there.
+fn table() -> &'static [u64; HASH_ENTRIES]
+    ensures { result.now ≡ tabulate entry 0 hash_entries }
 {
-    ZOBRIST
+    &ZOBRIST
 }
 
-// The number of a stone of this colour on this point, from the table: none for an empty point, and none beyond the largest board.
+// The number of a stone of this colour on this point: none for an empty point, and none beyond the largest board.
 // Whatever is neither empty nor Black counts as White, as in the definition.
-pub fn stone_hash(table: &[u64; HASH_ENTRIES], point: usize, colour: u8) -> u64
-    requires { table.now ≡ tabulate entry 0 hash_entries }
+pub fn stone_hash(point: usize, colour: u8) -> u64
     ensures { result ≡ cond (ltb point max_area) (stone_hash point colour) 0 }
 {
     if MAX_AREA <= point {
@@ -752,8 +751,9 @@ pub fn stone_hash(table: &[u64; HASH_ENTRIES], point: usize, colour: u8) -> u64
     if colour == EMPTY {
         return 0;
     }
+    let numbers = table();
     if colour == BLACK {
-        return table[2 * point];
+        return numbers[2 * point];
     }
-    table[2 * point + 1]
+    numbers[2 * point + 1]
 }

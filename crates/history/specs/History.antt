@@ -16,7 +16,6 @@ pub record Looking (bytes : List ℕ) (n : ℕ) (r : List ℕ) : Type 0 where
 -- room for one record more
 pub record Adding (bytes : List ℕ) (n : ℕ) (r : List ℕ) : Type 0 where
   pub fits : record_bytes * n + record_bytes ≤ length bytes
-  pub long : length r ≡ record_bytes
 
 -- the record is that of a board that the history has an equal of, or room for
 pub record Noting (bytes : List ℕ) (n : ℕ) (r : List ℕ) : Type 0 where

@@ -1,5 +1,5 @@
 -- What a record is packed from: the colours of all points of the largest board, and the bytes that hold them.
-use Rattle.std.specs.Prelude.{◌≡◌, List, [], ◌∷◌, ◌++◌, ℕ, ◌<◌, length}
+use Rattle.std.specs.Prelude.{List, [], ◌∷◌, ◌++◌, ℕ, ◌<◌}
 use Rattle.rules.specs.Sizes.{max_area, hash_bytes, colour_bytes}
 use Rattle.rules.specs.Lists.{tabulate}
 use Rattle.rules.specs.Colours.{at}
@@ -19,5 +19,4 @@ record_by hash cols = low_bytes hash_bytes hash ++ (colour_part cols ++ (0 ∷ [
 
 -- colours that two bits hold
 pub record Packing (cols : List ℕ) : Type 0 where
-  pub long : length cols ≡ max_area
   pub small : (p : ℕ) → at cols p < 4

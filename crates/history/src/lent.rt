@@ -1,13 +1,14 @@
 // The records in the lent bytes: a hundred bytes each, from the front.
-ghost use Rattle.std.specs.Prelude.{◌≡◌, List, ◌++◌, not, ◌&&◌, ℕ, ◌+◌, ◌*◌, ◌≤◌, leb, length, take, drop};
+ghost use Rattle.std.specs.Prelude.{◌≡◌, List, ◌++◌, not, ◌&&◌, ℕ, ◌+◌, ◌*◌, ◌<◌, ◌≤◌, leb, length, take, drop};
 ghost use Rattle.rules.specs.Sizes.{record_bytes};
 ghost use Rattle.rules.specs.Lists.{same};
-ghost use Rattle.rules.specs.Records.{record_of, capacity};
+ghost use Rattle.rules.specs.Records.{record_of, capacity, stored};
 ghost use Rattle.history.specs.History.{among, Looking, Adding, Noting, Noted};
 
 use points::sizes::RECORD_BYTES;
 
 // How many records the lent bytes have room for.
+#[tactic(auto, unfolding(rules::specs::Records::capacity))]
 pub fn capacity_of(history: &[u8]) -> usize
     ensures { result ≡ capacity history.now }
 {
@@ -16,17 +17,19 @@ pub fn capacity_of(history: &[u8]) -> usize
 
 // The stored record is this one: every byte is compared, so two boards with one hash are two boards.
 pub fn same_record(stored: &[u8], bytes: &[u8; RECORD_BYTES]) -> bool
-    requires { (length stored.now ≡ record_bytes) × (length bytes.now ≡ record_bytes) }
     ensures { result ≡ same stored.now bytes.now }
 {
-    let mut i = 0;
-    while i < RECORD_BYTES {
-        if stored[i] != bytes[i] {
-            return false;
-        }
-        i += 1;
-    }
-    true
+    stored == bytes.as_slice()
+}
+
+// The record in the place i: a hundred bytes.
+#[tactic(auto, unfolding(rules::specs::Records::capacity, rules::specs::Records::stored))]
+fn stored(history: &[u8], i: usize) -> &[u8]
+    requires { i < capacity history.now }
+    ensures { result.now ≡ stored history.now i }
+{
+    let at = RECORD_BYTES * i;
+    &history[at..at + RECORD_BYTES]
 }
 
 // One of the first `count` records is this one. Each comparison is lent one record alone.
@@ -34,14 +37,10 @@ pub fn is_recorded(history: &[u8], count: usize, bytes: &[u8; RECORD_BYTES]) -> 
     requires { Looking history.now count bytes.now }
     ensures { result ≡ among history.now count bytes.now }
 {
-    let mut looked = 0;
-    while looked < count {
-        let at = RECORD_BYTES * looked;
-        let end = at + RECORD_BYTES;
-        if same_record(&history[at..end], bytes) {
+    for i in 0..count {
+        if same_record(stored(history, i), bytes) {
             return true;
         }
-        looked += 1;
     }
     false
 }
@@ -51,22 +50,15 @@ pub fn is_full(history: &[u8], count: usize, bytes: &[u8; RECORD_BYTES]) -> bool
     requires { Looking history.now count bytes.now }
     ensures { result ≡ not (among history.now count bytes.now) && leb (capacity history.now) count }
 {
-    if is_recorded(history, count, bytes) {
-        return false;
-    }
-    capacity_of(history) <= count
+    !is_recorded(history, count, bytes) && capacity_of(history) <= count
 }
 
 // Writes the record over the part that is lent.
 pub fn write_record(part: &mut [u8], bytes: &[u8; RECORD_BYTES])
-    requires { (length part.old ≡ record_bytes) × (length bytes.now ≡ record_bytes) }
+    requires { length part.old ≡ record_bytes }
     ensures { part.new ≡ bytes.now }
 {
-    let mut written = 0;
-    while written < RECORD_BYTES {
-        part[written] = bytes[written];
-        written += 1;
-    }
+    part.copy_from_slice(bytes);
 }
 
 // The record becomes the next one: the writer is lent the next free hundred bytes alone.

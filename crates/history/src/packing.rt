@@ -17,32 +17,23 @@ fn packed(first: u8, second: u8, third: u8, fourth: u8) -> u8
 
 // Writes the hash to the first bytes, low byte first.
 fn write_hash(bytes: &mut [u8; RECORD_BYTES], hash: u64)
-    requires { length bytes.old ≡ record_bytes }
     ensures { bytes.new ≡ low_bytes hash_bytes hash ++ drop hash_bytes bytes.old }
 {
-    let mut rest = hash;
-    let mut left = HASH_BYTES;
-    while 0 < left {
-        bytes[HASH_BYTES - left] = (rest % 256) as u8;
-        rest = rest / 256;
-        left -= 1;
-    }
+    bytes[..HASH_BYTES].copy_from_slice(&hash.to_le_bytes());
 }
 
 // Writes the colours to the bytes after the hash.
 fn write_colours(bytes: &mut [u8; RECORD_BYTES], colours: &[u8; MAX_AREA])
-    requires { (length bytes.old ≡ record_bytes) × Packing colours.now }
+    requires { Packing colours.now }
     ensures { bytes.new ≡ take hash_bytes bytes.old ++ (colour_part colours.now ++ drop (hash_bytes + colour_bytes) bytes.old) }
 {
-    let mut i = 0;
-    while i < COLOUR_BYTES {
+    for i in 0..COLOUR_BYTES {
         let p = 4 * i;
         let first = colour_at(colours, p);
         let second = colour_at(colours, p + 1);
         let third = colour_at(colours, p + 2);
         let fourth = colour_at(colours, p + 3);
         bytes[HASH_BYTES + i] = packed(first, second, third, fourth);
-        i += 1;
     }
 }
 

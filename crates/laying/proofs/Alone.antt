@@ -1,119 +1,110 @@
--- A stone put as a chain of its own, one point beside it after the other: the chains that own the first i points have lost the liberty,
--- and the empty ones among those points are the stone's.
-use mathlib.Core.Bool.{Bool, true, false, cond}
-use mathlib.Core.Path.{◌≡◌, refl, sym, ap, ap₂, ◌∙◌}
-use mathlib.Core.List.{List, [], ◌∷◌, ◌++◌}
-use Prim.Native.Nat.{ℕ, ◌+◌, ◌≤◌, ◌<◌}
-use native.Mathlib.Numerals.{add-one}
-use native.Mathlib.Omega.{arith}
-use lib.Bits.{bit_xor}
-use lib.Dec.{eqb}
-use lib.ListN.{length, get_or, set, take}
-use lib.Seq.{take-suc}
+-- A stone put as a chain of its own, one point beside it after the other: what the points that are left take from the chains, and add to
+-- the stone's liberties, is what all points took and added at first.
+use Rattle.std.proofs.Common.{◌≡◌, ℕ, ◌≤◌, ◌<◌, List, [], ◌∷◌, length, Bool, true, false, cond, refl, sym, ap, ap₂, ◌∙◌, subst, get_or, set, bit_xor}
+use Rattle.std.specs.Prelude.{eqb}
 use Rattle.rules.specs.Sizes.{slots}
 use Rattle.rules.specs.Points.{neighbours}
 use Rattle.rules.specs.Hash.{stone_hash}
 use Rattle.chains.specs.declared.group.Chain.{Chain}
 use Rattle.chains.specs.Group.{new_chain}
 use Rattle.sets.specs.Liberties.{none, added}
+use Rattle.owning.specs.Owners.{owner_in}
 use Rattle.board.specs.declared.goban.Board.{Board}
 use Rattle.board.specs.Board.{owner}
 use Rattle.steps.specs.Steps.{loses, gains, in_slot, losing, openings, put}
-use Rattle.steps.specs.Laws.Put.{in_slot-stored, in_slot-beyond, length-losing, losing-more, openings-more}
+use Rattle.steps.specs.Laws.Put.{in_slot-stored, in_slot-beyond, length-losing}
 
--- the board with other chains
-abbrev pub with_chains : Board → List Chain → Board
-with_chains b cs =
-    record { height = b.height; width = b.width; hash = b.hash; owners = b.owners; next = b.next; chains = cs }
+-- the points that are left, of all that lie beside the stone p
+pub record Passing (b₀ : Board) (p c : ℕ) (near left : List ℕ) (b : Board) (stone : Chain) : Type 0 where
+  pub rest : b ≡ record b₀ { chains = b.chains }
+  pub lost : losing (owner b₀) p left b.chains ≡ losing (owner b₀) p near b₀.chains
+  pub lone : stone ≡ new_chain c p stone.liberties
+  pub found : openings (owner b₀) left stone.liberties ≡ openings (owner b₀) near none
 
--- the board, whose chains that own a point of the list lost the liberty p
-abbrev pub losing_on : Board → ℕ → List ℕ → Board
-losing_on b p qs = with_chains b (losing (owner b) p qs b.chains)
+module _ (b₀ : Board) (p c : ℕ) (near : List ℕ) where
+  pub passing-none : (stone : Chain) → stone ≡ new_chain c p none → Passing b₀ p c near near b₀ stone
+  unfolding new_chain
+  passing-none stone e = record {
+    rest = refl;
+    lost = refl;
+    lone = e ∙ ap (λ (s : Chain). new_chain c p s.liberties) (sym e);
+    found = ap (λ (s : Chain). openings (owner b₀) near s.liberties) e;
+  }
 
--- the board with the stone of hash x, in the slot s as the chain ch
-abbrev pub placed : Board → ℕ → ℕ → ℕ → Chain → Board
-placed b p s x ch =
-    record {
-      height = b.height;
-      width = b.width;
-      hash = bit_xor b.hash x;
-      owners = set b.owners p s;
-      next = set b.next p p;
-      chains = set b.chains s ch;
-    }
+  -- the same, of what is the same
+  pub passing-cast :
+      {left : List ℕ} {b b' : Board} {stone stone' : Chain} → b' ≡ b → stone' ≡ stone → Passing b₀ p c near left b stone
+      → Passing b₀ p c near left b' stone'
+  passing-cast {left} {b} {b'} {stone} {stone'} e f done =
+      subst (λ (x : Board). Passing b₀ p c near left x stone') (sym e) (subst (λ (x : Chain). Passing b₀ p c near left b x) (sym f) done)
 
--- the stone, with the points of the list as liberties that no chain owns
-abbrev pub lone : Board → ℕ → ℕ → List ℕ → Chain
-lone b p c qs = new_chain c p (openings (owner b) qs none)
+  pub passing-long : {left : List ℕ} {b : Board} {stone : Chain} → Passing b₀ p c near left b stone → length b.chains ≡ length b₀.chains
+  passing-long {left} {b} {stone} done =
+      sym (length-losing (owner b₀) p left b.chains) ∙ ap length done.lost ∙ length-losing (owner b₀) p near b₀.chains
 
--- one point more
-lone-more : (t : Bool) (c p q : ℕ) (ls : List ℕ) → cond t (gains q (new_chain c p ls)) (new_chain c p ls) ≡ new_chain c p (cond t (added ls q) ls)
-unfolding gains new_chain
-lone-more true c p q ls = refl
-lone-more false c p q ls = refl
+  module _ (left : List ℕ) (b : Board) (stone : Chain) (before : List ℕ) (done : Passing b₀ p c near before b stone) where
+    pub passing-same : before ≡ left → Passing b₀ p c near left b stone
+    passing-same e = subst (λ (ps : List ℕ). Passing b₀ p c near ps b stone) e done
 
--- the first i points beside p are done
-pub record Passed (b : Board) (p c : ℕ) (beside : List ℕ) (count : ℕ) (result : Board) (stone : Chain) (i : ℕ) : Type 0 where
-  pub within : i ≤ count
-  pub lost : result ≡ losing_on b p (take i beside)
-  pub found : stone ≡ lone b p c (take i beside)
+    -- one point more, which o owns
+    module _ (q o : ℕ) (next : before ≡ q ∷ left) (its : o ≡ owner_in b.owners q) (more : Chain) (opened : more ≡ cond (eqb o slots) (gains q stone) stone) where
+      name : o ≡ owner b₀ q
+      unfolding owner owner_in
+      name = its ∙ ap (λ (x : Board). get_or x.owners q slots) done.rest
 
-module _ (b : Board) (p c : ℕ) (beside : List ℕ) (count : ℕ) (result : Board) (stone : Chain) (i : ℕ)
-    (done : Passed b p c beside count result stone i) where
-  pub passed-owners : length result.owners ≡ length b.owners
-  passed-owners = ap (λ (r : Board). length r.owners) done.lost
+      turn : (cs : List Chain) → cs ≡ in_slot (loses p) o b.chains → Passing b₀ p c near left (record b { chains = cs }) more
+      unfolding gains new_chain
+      turn cs changed = record {
+        rest = ap (λ (x : Board). record x { chains = cs }) done.rest;
+        lost =
+            ap (losing (owner b₀) p left) (changed ∙ ap (λ (s : ℕ). in_slot (loses p) s b.chains) name)
+            ∙ ap (λ (ps : List ℕ). losing (owner b₀) p ps b.chains) (sym next) ∙ done.lost;
+        lone = opened ∙ still (eqb o slots) ∙ ap (λ (s : Chain). new_chain c p s.liberties) (sym opened);
+        found =
+            ap (λ (s : Chain). openings (owner b₀) left s.liberties) opened ∙ ap (openings (owner b₀) left) (libs (eqb o slots))
+            ∙ ap (λ (s : ℕ). openings (owner b₀) left (cond (eqb s slots) (added stone.liberties q) stone.liberties)) name
+            ∙ ap (λ (ps : List ℕ). openings (owner b₀) ps stone.liberties) (sym next) ∙ done.found;
+      }
+        where
+          libs : (t : Bool) → (cond t (gains q stone) stone).liberties ≡ cond t (added stone.liberties q) stone.liberties
+          libs true = refl
+          libs false = refl
 
-  passed-chains : length result.chains ≡ length b.chains
-  passed-chains = ap (λ (r : Board). length r.chains) done.lost ∙ length-losing (owner b) p (take i beside) b.chains
+          still : (t : Bool) → cond t (gains q stone) stone ≡ new_chain c p (cond t (gains q stone) stone).liberties
+          still true = ap (gains q) done.lone
+          still false = done.lone
 
-  -- one point more, which own owns
-  module _ (l : i < count) (fits : i < length beside) (own : ℕ) (its : own ≡ get_or result.owners (get_or beside i 0) slots)
-      (q : ℕ) (here : q ≡ get_or beside i 0) (more : Chain) (opened : more ≡ cond (eqb own slots) (gains q stone) stone) where
-    name : own ≡ owner b (get_or beside i 0)
-    unfolding owner
-    name = its ∙ ap (λ (r : Board). get_or r.owners (get_or beside i 0) slots) done.lost
+      pub passing-owned :
+          (past ch : Chain) → o < length b.chains → ch ≡ loses p (get_or b.chains o past)
+          → Passing b₀ p c near left (record b { chains = set b.chains o ch }) more
+      passing-owned past ch low e = turn (set b.chains o ch) (ap (set b.chains o) e ∙ in_slot-stored (loses p) o b.chains past low)
 
-    next : take (i + 1) beside ≡ take i beside ++ (get_or beside i 0 ∷ [])
-    next = rw add-one (take-suc beside i 0 fits)
+      pub passing-unowned : length b.chains ≤ o → Passing b₀ p c near left b more
+      passing-unowned high = turn b.chains (in_slot-beyond (loses p) o b.chains high)
 
-    turn : (after : Board) → after ≡ with_chains result (in_slot (loses p) own result.chains) → Passed b p c beside count after more (i + 1)
-    turn after changed =
-        record {
-          within = omega arith;
-          lost =
-              changed
-              ∙ ap (λ (r : Board). with_chains r (in_slot (loses p) own r.chains)) done.lost
-              ∙ ap (λ (s : ℕ). with_chains b (in_slot (loses p) s (losing (owner b) p (take i beside) b.chains))) name
-              ∙ ap (with_chains b) (sym (losing-more (owner b) p (take i beside) (get_or beside i 0) b.chains))
-              ∙ ap (losing_on b p) (sym next);
-          found =
-              opened
-              ∙ ap₂ (λ (s : ℕ) (r : ℕ). cond (eqb s slots) (gains r stone) stone) name here
-              ∙ ap (λ (ch : Chain). cond (eqb (owner b (get_or beside i 0)) slots) (gains (get_or beside i 0) ch) ch) done.found
-              ∙ lone-more (eqb (owner b (get_or beside i 0)) slots) c p (get_or beside i 0) (openings (owner b) (take i beside) none)
-              ∙ ap (new_chain c p) (sym (openings-more (owner b) (take i beside) (get_or beside i 0) none))
-              ∙ ap (lone b p c) (sym next);
-        }
-
-    module _ (long : length b.chains ≡ slots) where
-      pub passed-owned :
-          own < slots → (d : Chain) (ch : Chain) → ch ≡ loses p (get_or result.chains own d) →
-          Passed b p c beside count (with_chains result (set result.chains own ch)) more (i + 1)
-      passed-owned low d ch is =
-          turn _
-          (ap (with_chains result)
-          (ap (set result.chains own) is ∙ in_slot-stored (loses p) own result.chains d (omega (arith, passed-chains, long))))
-
-      pub passed-unowned : slots ≤ own → Passed b p c beside count result more (i + 1)
-      passed-unowned high =
-          turn result (ap (with_chains result) (in_slot-beyond (loses p) own result.chains (omega (arith, passed-chains, long))))
-
-  -- all points done
-  pub passed-all :
-      count ≤ i → take count beside ≡ neighbours b.height b.width p → (s x : ℕ) → x ≡ stone_hash p c →
-      placed result p s x stone ≡ put b p c s
+  -- no point is left
+  pub passing-all :
+      (b : Board) (stone : Chain) → Passing b₀ p c near [] b stone → near ≡ neighbours b₀.height b₀.width p → (s x : ℕ) → x ≡ stone_hash p c
+      → ◌≡◌ {A = Board} (record {
+        height = b.height;
+        width = b.width;
+        hash = bit_xor b.hash x;
+        owners = set b.owners p s;
+        next = set b.next p p;
+        chains = set b.chains s stone;
+      }) (put b₀ p c s)
   unfolding put
-  passed-all h listed s x number =
-      let all : take i beside ≡ neighbours b.height b.width p = let e : i ≡ count = omega (arith, done.within) in rw e listed in
-      ap (λ (r : Board). placed r p s x stone) (done.lost ∙ ap (losing_on b p) all)
-      ∙ ap₂ (placed (losing_on b p (neighbours b.height b.width p)) p s) number (done.found ∙ ap (lone b p c) all)
+  passing-all b stone done listed s x number = λ i.
+      record {
+        height = (done.rest i).height;
+        width = (done.rest i).width;
+        hash = bit_xor (done.rest i).hash (number i);
+        owners = set (done.rest i).owners p s;
+        next = set (done.rest i).next p p;
+        chains = chains-path i;
+      }
+    where
+      chains-path : set b.chains s stone ≡ set (losing (owner b₀) p (neighbours b₀.height b₀.width p) b₀.chains) s (new_chain c p (openings (owner b₀) (neighbours b₀.height b₀.width p) none))
+      chains-path =
+          ap₂ (λ (cs : List Chain) (ch : Chain). set cs s ch) done.lost (done.lone ∙ ap (new_chain c p) done.found)
+          ∙ ap (λ (ps : List ℕ). set (losing (owner b₀) p ps b₀.chains) s (new_chain c p (openings (owner b₀) ps none))) listed

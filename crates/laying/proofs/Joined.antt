@@ -14,7 +14,7 @@ use Rattle.board.specs.declared.goban.Board.{Board}
 use Rattle.board.specs.Board.{chain_in}
 use Rattle.board.specs.Laws.Board.{area-fits}
 use Rattle.steps.specs.Steps.{owning, united, join}
-use Rattle.steps.specs.Links.{Walkable, Linkable}
+use Rattle.steps.specs.Links.{Walkable}
 use Rattle.steps.specs.Joining.{Joining}
 use Rattle.steps.specs.Laws.Ring.{owned-within}
 use Rattle.steps.specs.Laws.Links.{ring-last}
@@ -29,12 +29,10 @@ module _ (b : Board) (t f : ℕ) (is : Joining b t f) (d : Chain) where
   from-entry : get_or b.chains f d ≡ chain_in b f
   from-entry = entry b is.table d f is.from_low
 
-  pub joined-walk : Walkable b.owners b.next (get_or b.chains f d).origin (get_or b.chains f d).count
+  pub joined-walk : Walkable b.next (get_or b.chains f d).origin (get_or b.chains f d).count
   joined-walk =
       rw (ap (λ (c : Chain). c.origin) from-entry, ap (λ (c : Chain). c.count) from-entry)
       (record {
-        places = is.table.shape.owners;
-        links = is.table.shape.links;
         points = λ k h. owned-within b is.table f is.from_low is.from-used _ ((from-ring b t f is).linked k h);
       })
 
@@ -48,8 +46,8 @@ module _ (b : Board) (t f : ℕ) (is : Joining b t f) (d : Chain) where
       let within = owned-within b is.table f is.from_low is.from-used (chain_in b f).last (ring-last (from-ring b t f is)) in
       omega (arith, ap (λ (c : Chain). c.last) from-entry)
 
-  pub joined-links : Linkable b.next (get_or b.chains t d).last (get_or b.chains f d).last
-  joined-links = record { links = is.table.shape.links; first = to_last; second = from_last }
+  pub joined-links : ((get_or b.chains t d).last < max_area) × ((get_or b.chains f d).last < max_area)
+  joined-links = (to_last, from_last)
 
   pub joined-count : (get_or b.chains t d).count + (get_or b.chains f d).count < 2 ^ 16
   joined-count =

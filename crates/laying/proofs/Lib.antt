@@ -2,4 +2,4 @@
 pub mod Alone
 pub mod Beside
 pub mod Joined
-pub mod Lifting
+pub mod Ending

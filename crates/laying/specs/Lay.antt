@@ -1,6 +1,5 @@
 -- A stone laid by the steps: put, joined with its neighbours of one colour, then the dead lifted, the enemy's before one's own.
-use Rattle.std.specs.Prelude.{Bool, true, false, cond, not, ◌&&◌, List, [], ◌∷◌, ℕ, ◌+◌, eqb}
-use Rattle.std.proofs.Math.Option.{Option, none, some}
+use Rattle.std.specs.Prelude.{Bool, true, false, cond, not, ◌&&◌, List, [], ◌∷◌, ℕ, ◌+◌, eqb, Option, None, Some}
 use Rattle.rules.specs.Points.{neighbours}
 use Rattle.rules.specs.Colours.{other}
 use Rattle.sets.specs.Liberties.{number}
@@ -66,7 +65,7 @@ finished keep s h =
       board = cond gone (remove h.board s) h.board;
       taken = h.stones;
       lost = cond gone (chain_in h.board s).count 0;
-      ko_point = cond (eqb h.stones 1) (some h.point) none;
+      ko_point = cond (eqb h.stones 1) (Some h.point) None;
     }
 
 -- keep: own chains are never lifted

@@ -7,7 +7,6 @@ use Rattle.rules.specs.Flags.{SUICIDE, forbids}
 use Rattle.rules.specs.Tests.{suicide}
 use Rattle.rules.specs.Move.{coloured, played, removed, sole_of}
 use Rattle.rules.specs.Game.{Player}
-use Rattle.points.specs.Place.{place_of}
 use Rattle.board.specs.declared.goban.Board.{Board}
 use Rattle.board.specs.Board.{colours_of}
 use Rattle.board.specs.True.{TrueBoard}
@@ -32,4 +31,4 @@ pub record LaidOut (b : Board) (p c flags : ℕ) (r : Laid) : Type 0 where
   pub lost :
       r.lost ≡ length (removed b.height b.width c (coloured (colours_of b) c p) (played b.height b.width flags (colours_of b) c p))
   pub ko :
-      place_of r.ko ≡ sole_of (removed b.height b.width (other c) (coloured (colours_of b) c p) (played b.height b.width flags (colours_of b) c p))
+      r.ko ≡ sole_of (removed b.height b.width (other c) (coloured (colours_of b) c p) (played b.height b.width flags (colours_of b) c p))

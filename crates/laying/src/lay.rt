@@ -1,19 +1,26 @@
 // Laying a stone, as the crate's `push` does: it is put as a chain of its own, joined with the chains of its colour beside it, the
-// enemy's chains without liberty beside it are lifted, and then its own, where it has none and suicide is allowed.
-ghost use Rattle.std.specs.Prelude.{cond, not, ◌&&◌, ◌≡◌, ◌≤◌, ◌<◌, eqb, ltb, length, get_or};
-ghost use Rattle.std.proofs.Math.Option.{some, none};
-ghost use Rattle.rules.specs.Sizes.{max_area, slots};
-ghost use Rattle.rules.specs.Flags.{SUICIDE, forbids};
-ghost use Rattle.points.specs.Place.{place_of};
+// enemy's chains without liberty beside it are lifted, and then its own, where it has none and suicide is allowed. Each step is lent the
+// board, so that it is copied once.
+ghost use Rattle.std.specs.Prelude.{cond, not, ◌&&◌, ◌≡◌, eqb, Some, None};
+ghost use Rattle.rules.specs.Flags as flag;
+ghost use Rattle.rules.specs.Game.{Player};
+ghost use Rattle.rules.specs.Points as rules;
 ghost use Rattle.sets.specs.Liberties.{number};
-ghost use Rattle.steps.specs.Numbers.{Numbers};
+ghost use Rattle.board.specs.True.{ExactTable};
+ghost use Rattle.steps.specs.Putting.{Putting};
+ghost use Rattle.steps.specs.Joining.{Joining};
+ghost use Rattle.steps.specs.Steps as steps;
+ghost use Rattle.laying.specs.Lay.{join_all, take_all};
+ghost use Rattle.laying.specs.Laws.Gather.{Joinable};
 ghost use Rattle.laying.specs.Laying.{Laying, LaidOut};
 
 use board::goban::Board;
-use chains::group::{Chain, free_chain, index, new_chain};
+use chains::group::{Chain, free_chain, free_slot, index, new_chain};
 use hashing::zobrist::stone_hash;
-use points::coord::{Around, Place, neighbours};
-use points::sizes::{HASH_ENTRIES, MAX_AREA, SLOTS};
+use owning::owners::owner_at;
+use points::coord::sides;
+use points::flags::{Flag, forbids};
+use points::sizes::SLOTS;
 use points::stones::other;
 use sets::liberties::{any_liberty, empty_liberties};
 use steps::join::{own, relink, unite};
@@ -26,28 +33,7 @@ pub struct Laid {
     pub board: Board,
     pub taken: u16,
     pub lost: u16,
-    pub ko: Place,
-}
-
-// The i-th of the points beside a stone.
-fn point_beside(around: Around, i: usize) -> usize
-    requires { i < 4 }
-    ensures { result ≡ get_or around.points i 0 }
-{
-    let points = around.points;
-    index(points[i])
-}
-
-// The slot that owns it.
-fn owner_beside(owners: &[u16; MAX_AREA], around: Around, i: usize) -> usize
-    requires { (length owners.now ≡ max_area) × (i < 4) }
-    ensures { result ≡ get_or owners.now (get_or around.points i 0) slots }
-{
-    let point = point_beside(around, i);
-    if MAX_AREA <= point {
-        return SLOTS;
-    }
-    index(owners[point])
+    pub ko: Option<usize>,
 }
 
 // The chain in the slot beside the new stone is to be joined with that in the stone's own slot.
@@ -61,8 +47,7 @@ fn joins(chain: Chain, beside: usize, colour: u8, slot: usize) -> bool
 fn is_dead(chain: Chain) -> bool
     ensures { result ≡ eqb (number chain.liberties) 0 }
 {
-    let liberties = chain.liberties;
-    !any_liberty(liberties)
+    !any_liberty(chain.liberties)
 }
 
 // The chain is of the colour, and has no liberty.
@@ -73,121 +58,115 @@ fn is_captured(chain: Chain, colour: u8) -> bool
 }
 
 // The ko point, if one stone was taken, is that stone's.
-fn ko_point(taken: u16, point: usize) -> Place
-    ensures { place_of result ≡ cond (eqb taken 1) (some point) none }
+fn ko_point(taken: u16, point: usize) -> Option<usize>
+    ensures { result ≡ cond (eqb taken 1) (Some point) None }
 {
-    if taken == 1 {
-        return Place::At(point);
-    }
-    Place::Off
+    if taken == 1 { Some(point) } else { None }
 }
 
 // The new stone's own chain is to be lifted: it has no liberty, and the flags allow suicide.
 fn is_lost(chain: Chain, flags: u8) -> bool
-    ensures { result ≡ not (forbids flags SUICIDE) && eqb (number chain.liberties) 0 }
+    ensures { result ≡ not (flag.forbids flags flag.SUICIDE) && eqb (number chain.liberties) 0 }
 {
-    flags / 2 % 2 != 1 && is_dead(chain)
+    !forbids(flags, Flag::Suicide) && is_dead(chain)
 }
 
-// The slot whose turn it is to be lifted if it is dead: those beside the stone, and last the stone's own.
-fn turn_of(owners: &[u16; MAX_AREA], around: Around, i: usize, slot: usize) -> usize
-    requires { (length owners.now ≡ max_area) × (around.count ≤ 4) }
-    ensures { result ≡ cond (ltb i around.count) (get_or owners.now (get_or around.points i 0) slots) slot }
+// Puts the stone on an empty point, as a chain of its own in the free slot.
+fn put(board: &mut Board, point: usize, colour: u8, slot: usize)
+    requires { Putting board.old point colour slot }
+    ensures { board.new ≡ steps.put board.old point colour slot }
 {
-    if i < around.count {
-        return owner_beside(owners, around, i);
-    }
-    slot
-}
-
-// The chain is to be lifted: beside the stone if it is the enemy's, the stone's own by the flags.
-fn is_lifted(chain: Chain, beside: bool, enemy: u8, flags: u8) -> bool
-    ensures { result ≡ cond beside (eqb chain.colour enemy && eqb (number chain.liberties) 0) (not (forbids flags SUICIDE) && eqb (number chain.liberties) 0) }
-{
-    if beside {
-        return is_captured(chain, enemy);
-    }
-    is_lost(chain, flags)
-}
-
-// A stone of this colour on the point. All is done on one copy of the board, which a step would copy again.
-pub fn lay(
-    mut board: Board,
-    numbers: &[u64; HASH_ENTRIES],
-    point: usize,
-    colour: u8,
-    flags: u8,
-) -> Laid
-    requires laying { Laying board point colour flags }
-    requires numbers { Numbers numbers.now }
-    ensures { LaidOut board point colour flags result }
-{
-    let mut slot = 0;
-    while board.chains[slot].count != 0 {
-        slot += 1;
-    }
-    let around = neighbours(board.height, board.width, point);
     let mut stone = new_chain(colour, point as u16, empty_liberties());
-    let mut i = 0;
-    while i < around.count {
-        let owner = owner_beside(&board.owners, around, i);
-        stone = opened(stone, owner, point_beside(around, i));
-        i += 1;
-        if owner < SLOTS {
-            let chain = without(board.chains[owner], point);
-            board.chains[owner] = chain;
+    for side in sides(board.height, board.width, point) {
+        if let Some(beside) = side {
+            let owner = owner_at(&board.owners, beside);
+            stone = opened(stone, owner, beside);
+            if owner < SLOTS {
+                board.chains[owner] = without(board.chains[owner], point);
+            }
         }
     }
     board.owners[point] = slot as u16;
     board.next[point] = point as u16;
-    board.hash = board.hash ^ stone_hash(numbers, point, colour);
+    board.hash ^= stone_hash(point, colour);
     board.chains[slot] = stone;
-    i = 0;
-    while i < around.count {
-        let owner = owner_beside(&board.owners, around, i);
-        i += 1;
-        if owner < SLOTS {
-            let a = board.chains[owner];
-            if joins(a, owner, colour, slot) {
-                let b = board.chains[slot];
-                let next = board.next;
-                own(&mut board.owners, &next, b, owner);
-                relink(&mut board.next, a, b);
-                let free = free_chain();
-                board.chains[slot] = free;
-                let whole = unite(a, b);
-                board.chains[owner] = whole;
-                slot = owner;
+}
+
+// The chain of the one slot goes over to that of the other.
+fn join(board: &mut Board, to: usize, from: usize)
+    requires { Joining board.old to from }
+    ensures { board.new ≡ steps.join board.old to from }
+{
+    let a = board.chains[to];
+    let b = board.chains[from];
+    own(&mut board.owners, &board.next, b, to);
+    relink(&mut board.next, a, b);
+    board.chains[from] = free_chain();
+    board.chains[to] = unite(a, b);
+}
+
+// Joins the stone's chain with each chain of its colour beside it. Answers the slot that it is in then.
+fn join_beside(board: &mut Board, point: usize, colour: u8, slot: usize) -> usize
+    requires { Joinable board.old point colour slot }
+    ensures { join_all colour (rules.neighbours board.old.height board.old.width point) board.old slot ≡ record { board = board.new; slot = result } }
+{
+    let mut mine = slot;
+    for side in sides(board.height, board.width, point) {
+        if let Some(beside) = side {
+            let owner = owner_at(&board.owners, beside);
+            if owner < SLOTS && joins(board.chains[owner], owner, colour, mine) {
+                join(board, owner, mine);
+                mine = owner;
             }
         }
     }
-    let enemy = other(colour);
-    let mut taken = 0u16;
-    let mut lost = 0u16;
+    mine
+}
+
+// Lifts the enemy's chains without liberty beside the stone. Answers how many stones they had, and a point of the last.
+fn take_beside(board: &mut Board, point: usize, enemy: u8) -> (u16, usize)
+    requires table { ExactTable board.old }
+    requires player { Player enemy }
+    ensures { take_all enemy (rules.neighbours board.old.height board.old.width point) (record { board = board.old; stones = 0; point = 0 }) ≡ record { board = board.new; stones = result.0; point = result.1 } }
+{
+    let mut taken = 0;
     let mut prisoner = 0;
-    i = 0;
-    while i <= around.count {
-        let owner = turn_of(&board.owners, around, i, slot);
-        let beside = i < around.count;
-        i += 1;
-        if owner < SLOTS {
-            let chain = board.chains[owner];
-            if is_lifted(chain, beside, enemy, flags) {
-                board = remove_chain(board, numbers, owner);
-                if beside {
+    for side in sides(board.height, board.width, point) {
+        if let Some(beside) = side {
+            let owner = owner_at(&board.owners, beside);
+            if owner < SLOTS {
+                let chain = board.chains[owner];
+                if is_captured(chain, enemy) {
+                    remove_chain(board, owner);
                     taken += chain.count;
                     prisoner = index(chain.origin);
-                } else {
-                    lost = chain.count;
                 }
             }
         }
     }
-    let ko = ko_point(taken, prisoner);
+    (taken, prisoner)
+}
+
+// A stone of this colour on the point.
+pub fn lay(mut board: Board, point: usize, colour: u8, flags: u8) -> Laid
+    requires { Laying board point colour flags }
+    ensures { LaidOut board point colour flags result }
+{
+    let free = free_slot(&board.chains).unwrap();
+    put(&mut board, point, colour, free);
+    let slot = join_beside(&mut board, point, colour, free);
+    let enemy = other(colour);
+    let (taken, prisoner) = take_beside(&mut board, point, enemy);
+    let chain = board.chains[slot];
+    let mut lost = 0;
+    if is_lost(chain, flags) {
+        remove_chain(&mut board, slot);
+        lost = chain.count;
+    }
     Laid {
-        board: board,
-        taken: taken,
-        lost: lost,
-        ko: ko,
+        board,
+        taken,
+        lost,
+        ko: ko_point(taken, prisoner),
     }
 }

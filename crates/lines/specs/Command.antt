@@ -1,6 +1,5 @@
 -- What a line says: one of the calls with its numbers as they are written, a line to give back, or what is wrong with it.
-use Rattle.std.specs.Prelude.{cond, List, [], ◌∷◌, ℕ, eqb, ltb, length}
-use Rattle.std.proofs.Math.Option.{Option, none, some}
+use Rattle.std.specs.Prelude.{cond, List, [], ◌∷◌, ℕ, eqb, ltb, length, Option, None, Some}
 use Rattle.rules.specs.Lists.{same}
 use Rattle.rules.specs.Colours.{black, white}
 use Rattle.rules.specs.Calls.{Spot}
@@ -41,52 +40,52 @@ pub data Command : Type 0 where
 
 -- height, width, flags and, perhaps, bytes of history
 unfoldable pub new_of : Option (List ℕ) → Command
-new_of none = Wrong faults.New
-new_of (some []) = Wrong faults.New
-new_of (some (h ∷ [])) = Wrong faults.New
-new_of (some (h ∷ w ∷ [])) = Wrong faults.New
-new_of (some (h ∷ w ∷ flags ∷ [])) = New h w flags usual_lent
-new_of (some (h ∷ w ∷ flags ∷ bytes ∷ [])) = cond (ltb max_lent bytes) (Wrong faults.Bytes) (New h w flags bytes)
-new_of (some (h ∷ w ∷ flags ∷ bytes ∷ n ∷ ns)) = Wrong faults.New
+new_of None = Wrong faults.New
+new_of (Some []) = Wrong faults.New
+new_of (Some (h ∷ [])) = Wrong faults.New
+new_of (Some (h ∷ w ∷ [])) = Wrong faults.New
+new_of (Some (h ∷ w ∷ flags ∷ [])) = New h w flags usual_lent
+new_of (Some (h ∷ w ∷ flags ∷ bytes ∷ [])) = cond (ltb max_lent bytes) (Wrong faults.Bytes) (New h w flags bytes)
+new_of (Some (h ∷ w ∷ flags ∷ bytes ∷ n ∷ ns)) = Wrong faults.New
 
 unfoldable pub preceded : Spot → Option (List Spot) → Option (List Spot)
-preceded s none = none
-preceded s (some spots) = some (s ∷ spots)
+preceded s None = None
+preceded s (Some spots) = Some (s ∷ spots)
 
 -- rows and columns in turn; an odd one is left over
 unfoldable pub pairs : List ℕ → Option (List Spot)
-pairs [] = some []
-pairs (r ∷ []) = none
+pairs [] = Some []
+pairs (r ∷ []) = None
 pairs (r ∷ c ∷ ns) = preceded (record { row = r; column = c }) (pairs ns)
 
 unfoldable pub spotted : Option (List Spot) → Command
-spotted none = Wrong faults.Handicap
-spotted (some spots) = Handicap spots
+spotted None = Wrong faults.Handicap
+spotted (Some spots) = Handicap spots
 
 unfoldable pub handicap_of : Option (List ℕ) → Command
-handicap_of none = Wrong faults.Handicap
-handicap_of (some ns) = spotted (pairs ns)
+handicap_of None = Wrong faults.Handicap
+handicap_of (Some ns) = spotted (pairs ns)
 
 unfoldable pub stone_of : Option (List ℕ) → Command
-stone_of none = Wrong faults.Stone
-stone_of (some []) = Wrong faults.Stone
-stone_of (some (r ∷ [])) = Wrong faults.Stone
-stone_of (some (r ∷ c ∷ [])) = Stone r c
-stone_of (some (r ∷ c ∷ n ∷ ns)) = Wrong faults.Stone
+stone_of None = Wrong faults.Stone
+stone_of (Some []) = Wrong faults.Stone
+stone_of (Some (r ∷ [])) = Wrong faults.Stone
+stone_of (Some (r ∷ c ∷ [])) = Stone r c
+stone_of (Some (r ∷ c ∷ n ∷ ns)) = Wrong faults.Stone
 
 unfoldable pub check_of : Option (List ℕ) → Command
-check_of none = Wrong faults.Check
-check_of (some []) = Wrong faults.Check
-check_of (some (r ∷ [])) = Wrong faults.Check
-check_of (some (r ∷ c ∷ [])) = Wrong faults.Check
-check_of (some (r ∷ c ∷ flags ∷ [])) = Check r c flags
-check_of (some (r ∷ c ∷ flags ∷ n ∷ ns)) = Wrong faults.Check
+check_of None = Wrong faults.Check
+check_of (Some []) = Wrong faults.Check
+check_of (Some (r ∷ [])) = Wrong faults.Check
+check_of (Some (r ∷ c ∷ [])) = Wrong faults.Check
+check_of (Some (r ∷ c ∷ flags ∷ [])) = Check r c flags
+check_of (Some (r ∷ c ∷ flags ∷ n ∷ ns)) = Wrong faults.Check
 
 unfoldable pub legals_of : Option (List ℕ) → Command
-legals_of none = Wrong faults.Legals
-legals_of (some []) = Wrong faults.Legals
-legals_of (some (flags ∷ [])) = Legals flags
-legals_of (some (flags ∷ n ∷ ns)) = Wrong faults.Legals
+legals_of None = Wrong faults.Legals
+legals_of (Some []) = Wrong faults.Legals
+legals_of (Some (flags ∷ [])) = Legals flags
+legals_of (Some (flags ∷ n ∷ ns)) = Wrong faults.Legals
 
 unfoldable pub player_of : List ℕ → Command
 player_of w = cond (same w (ascii "b")) (Resign black) (cond (same w (ascii "w")) (Resign white) (Wrong faults.Resign))
@@ -103,31 +102,32 @@ alone command (w ∷ ws) = Wrong faults.Alone
 
 -- ---- The names of the calls
 
-unfoldable pub name_of : List ℕ → Name
+-- the call that a word names, if it names one
+unfoldable pub name_of : List ℕ → Option Name
 name_of w =
-    cond (same w (ascii "new")) names.New
-    (cond (same w (ascii "handicap")) names.Handicap
-    (cond (same w (ascii "stone")) names.Stone
-    (cond (same w (ascii "pass")) names.Pass
-    (cond (same w (ascii "resign")) names.Resign
-    (cond (same w (ascii "resume")) names.Resume
-    (cond (same w (ascii "check")) names.Check
-    (cond (same w (ascii "legals")) names.Legals
-    (cond (same w (ascii "state")) names.State
-    (cond (same w (ascii "render")) names.Render names.Other)))))))))
+    cond (same w (ascii "new")) (Some names.New)
+    (cond (same w (ascii "handicap")) (Some names.Handicap)
+    (cond (same w (ascii "stone")) (Some names.Stone)
+    (cond (same w (ascii "pass")) (Some names.Pass)
+    (cond (same w (ascii "resign")) (Some names.Resign)
+    (cond (same w (ascii "resume")) (Some names.Resume)
+    (cond (same w (ascii "check")) (Some names.Check)
+    (cond (same w (ascii "legals")) (Some names.Legals)
+    (cond (same w (ascii "state")) (Some names.State)
+    (cond (same w (ascii "render")) (Some names.Render) None)))))))))
 
-unfoldable pub called : Name → List (List ℕ) → Command
-called names.New ws = new_of (numbers ws)
-called names.Handicap ws = handicap_of (numbers ws)
-called names.Stone ws = stone_of (numbers ws)
-called names.Pass ws = alone Pass ws
-called names.Resign ws = resign_of ws
-called names.Resume ws = alone Resume ws
-called names.Check ws = check_of (numbers ws)
-called names.Legals ws = legals_of (numbers ws)
-called names.State ws = alone State ws
-called names.Render ws = alone Render ws
-called names.Other ws = Wrong faults.Unknown
+unfoldable pub called : Option Name → List (List ℕ) → Command
+called (Some names.New) ws = new_of (numbers ws)
+called (Some names.Handicap) ws = handicap_of (numbers ws)
+called (Some names.Stone) ws = stone_of (numbers ws)
+called (Some names.Pass) ws = alone Pass ws
+called (Some names.Resign) ws = resign_of ws
+called (Some names.Resume) ws = alone Resume ws
+called (Some names.Check) ws = check_of (numbers ws)
+called (Some names.Legals) ws = legals_of (numbers ws)
+called (Some names.State) ws = alone State ws
+called (Some names.Render) ws = alone Render ws
+called None ws = Wrong faults.Unknown
 
 -- ---- A line
 

@@ -24,7 +24,7 @@ pub enum Fault {
     Room,
 }
 
-// The first word of a line.
+// The first word of a line, where it names a call.
 #[derive(Clone, Copy)]
 pub enum Name {
     New,
@@ -37,9 +37,9 @@ pub enum Name {
     Legals,
     State,
     Render,
-    Other,
 }
 
+// What a line asks for.
 #[derive(Clone, Copy)]
 pub enum Read {
     // the line is given back
@@ -60,7 +60,6 @@ pub enum Read {
     Legals(u8),
     State,
     Render,
-    Wrong(Fault),
 }
 
 // The longest line that is read, without its end.

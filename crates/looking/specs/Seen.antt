@@ -1,16 +1,17 @@
 -- What a board shows of its points, and what of that stands beside a point.
 use Rattle.std.specs.Prelude.{cond, ◌&&◌, List, map, ◌≡◌, ℕ, ◌≤◌, ◌<◌, eqb, length, get_or}
+use Rattle.std.specs.Option.{option_map}
 use Rattle.rules.specs.Sizes.{max_area, slots}
 use Rattle.rules.specs.Lists.{tabulate}
 use Rattle.rules.specs.Colours.{empty, at}
-use Rattle.rules.specs.Points.{area, index, neighbours}
+use Rattle.rules.specs.Points.{area, index, sides}
 use Rattle.rules.specs.Chain.{size, liberties}
 use Rattle.chains.specs.declared.group.Chain.{Chain}
 use Rattle.sets.specs.Liberties.{number}
 use Rattle.history.specs.Packing.{on_largest}
 use Rattle.legality.specs.declared.near.Near.{Near}
 use Rattle.legality.specs.declared.near.Beside.{Beside}
-use Rattle.legality.specs.Near.{in_four, of_stone, near_of}
+use Rattle.legality.specs.Near.{of_stone, near_of}
 use Rattle.board.specs.declared.goban.Board.{Board}
 use Rattle.board.specs.Board.{colours_of}
 use Rattle.looking.specs.declared.look.Seen.{Seen}
@@ -34,7 +35,6 @@ seen_of h w cols =
 
 -- what a chain shows at p: where p is not its first point, its liberties stand at the first
 pub record Counted (c : Chain) (liberties : List ℕ) (p : ℕ) : Type 0 where
-  pub long : length liberties ≡ max_area
   pub within : p < max_area
   pub first : c.origin < p → get_or liberties c.origin 0 ≡ number c.liberties
 
@@ -45,15 +45,13 @@ pub record Shows (h w : ℕ) (colours liberties stones : List ℕ) : Type 0 wher
   pub breathing : length liberties ≡ max_area
   pub counted : length stones ≡ max_area
 
--- the points beside p in order, as they are shown
+-- a point as it is shown
+unfoldable pub shown : List ℕ → List ℕ → List ℕ → ℕ → Beside
+shown cs ls ss q = record { colour = get_or cs q 0; liberties = get_or ls q 0; stones = get_or ss q 0 }
+
+-- the points on the sides of p in order, as they are shown
 unfoldable pub near_in : ℕ → ℕ → List ℕ → List ℕ → List ℕ → ℕ → Near
-near_in h w cs ls ss p =
-    record {
-      count = length (neighbours h w p);
-      colours = in_four (map (λ q. get_or cs q 0) (neighbours h w p));
-      liberties = in_four (map (λ q. get_or ls q 0) (neighbours h w p));
-      stones = in_four (map (λ q. get_or ss q 0) (neighbours h w p));
-    }
+near_in h w cs ls ss p = record { sides = map (option_map (shown cs ls ss)) (sides h w p) }
 
 -- a slot of the table, and the owner where it is one
 pub record Readable (owner slot : ℕ) : Type 0 where

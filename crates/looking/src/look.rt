@@ -1,21 +1,24 @@
 // What a board shows of its points and of what stands beside one, read once for the tests. These are numbers alone, so that they can
 // be lent while the board stays where it is.
-ghost use Rattle.std.specs.Prelude.{cond, ◌≡◌, ◌<◌, ltb, length, set};
+ghost use Rattle.std.specs.Prelude.{cond, ◌≡◌, ◌<◌, ltb, set};
+ghost use Rattle.std.specs.Option.{option_map};
 ghost use Rattle.rules.specs.Sizes.{max_area, slots};
 ghost use Rattle.rules.specs.Colours.{empty};
+ghost use Rattle.legality.specs.Near.{seen};
 ghost use Rattle.board.specs.Board.{colours_of};
 ghost use Rattle.board.specs.True.{TrueBoard};
-ghost use Rattle.looking.specs.Seen.{chain_seen, nothing, seen_of, Counted, Shows, near_in, Readable, Sees, Partly, known_after};
+ghost use Rattle.looking.specs.Seen.{chain_seen, nothing, seen_of, Counted, shown, near_in, Readable, Sees, Partly, known_after};
 
 use board::goban::Board;
-use chains::group::{Chain, index};
+use chains::group::Chain;
 use legality::near::{Beside, Near};
-use points::coord::{area, neighbours, two_to_1dim};
+use points::coord::{area, sides, two_to_1dim};
 use points::sizes::{MAX_AREA, SLOTS};
 use points::stones::EMPTY;
 use sets::liberties::number_of_liberties;
 
-// Of each point the colour, and the liberties and stones of the chain there, 0 at an empty point.
+// Of each point the colour, and the liberties and stones of the chain there, 0 at an empty point. These are three arrays, since the colours
+// are lent alone to the tests of eyes and to the record.
 #[derive(Clone, Copy)]
 pub struct Seen {
     pub colours: [u8; MAX_AREA],
@@ -40,11 +43,9 @@ pub struct Sight {
 fn chain_seen(chain: Chain) -> Beside
     ensures { result ≡ chain_seen chain }
 {
-    let liberties = chain.liberties;
-    let number = number_of_liberties(liberties);
     Beside {
         colour: chain.colour,
-        liberties: number as u16,
+        liberties: number_of_liberties(chain.liberties) as u16,
         stones: chain.count,
     }
 }
@@ -54,7 +55,7 @@ fn stone_seen(chain: Chain, liberties: &[u16; MAX_AREA], point: usize) -> Beside
     requires { Counted chain liberties.now point }
     ensures { result ≡ chain_seen chain }
 {
-    let origin = index(chain.origin);
+    let origin = usize::from(chain.origin);
     if origin < point {
         return Beside {
             colour: chain.colour,
@@ -66,6 +67,7 @@ fn stone_seen(chain: Chain, liberties: &[u16; MAX_AREA], point: usize) -> Beside
 }
 
 // What is seen where no chain stands.
+#[tactic(auto, unfolding(crate::specs::Seen::nothing))]
 fn nothing_seen() -> Beside
     ensures { result ≡ nothing }
 {
@@ -84,58 +86,69 @@ pub fn seen_of(board: Board) -> Seen
     let mut colours = [EMPTY; MAX_AREA];
     let mut liberties = [0u16; MAX_AREA];
     let mut stones = [0u16; MAX_AREA];
-    let mut point = 0;
-    while point < MAX_AREA {
-        let owner = index(board.owners[point]);
-        let mut seen = nothing_seen();
-        if owner < SLOTS {
-            let chain = stone_seen(board.chains[owner], &liberties, point);
-            seen = chain;
-        }
+    for point in 0..MAX_AREA {
+        let owner = usize::from(board.owners[point]);
+        let seen = if owner < SLOTS {
+            stone_seen(board.chains[owner], &liberties, point)
+        } else {
+            nothing_seen()
+        };
         colours[point] = seen.colour;
         liberties[point] = seen.liberties;
         stones[point] = seen.stones;
-        point += 1;
     }
     Seen {
-        colours: colours,
-        liberties: liberties,
-        stones: stones,
+        colours,
+        liberties,
+        stones,
     }
 }
 
-// What stands beside a point, by what is shown.
-pub fn near(
-    colours: &[u8; MAX_AREA],
-    liberties: &[u16; MAX_AREA],
-    stones: &[u16; MAX_AREA],
-    height: u8,
-    width: u8,
-    point: usize,
-) -> Near
-    requires { Shows height width colours.now liberties.now stones.now }
-    ensures { result ≡ near_in height width colours.now liberties.now stones.now point }
+// What is shown at a point, where there is one.
+fn shown_at(seen: &Seen, side: Option<usize>) -> Option<Beside>
+    ensures { result ≡ option_map (shown seen.now.colours seen.now.liberties seen.now.stones) side }
 {
-    let around = neighbours(height, width, point);
-    let beside = around.points;
-    let count = around.count;
-    let mut near_colours = [0u8; 4];
-    let mut near_liberties = [0u16; 4];
-    let mut near_stones = [0u16; 4];
-    let mut i = 0;
-    while i < count {
-        let q = index(beside[i]);
-        near_colours[i] = colours[q];
-        near_liberties[i] = liberties[q];
-        near_stones[i] = stones[q];
-        i += 1;
+    let q = side?;
+    if MAX_AREA <= q {
+        return Some(nothing_seen());
     }
+    Some(Beside {
+        colour: seen.colours[q],
+        liberties: seen.liberties[q],
+        stones: seen.stones[q],
+    })
+}
+
+// What stands beside a point, by what is shown.
+#[tactic(auto, unfolding(crate::specs::Seen::near_in, rules::specs::Points::sides))]
+pub fn near(seen: &Seen, height: u8, width: u8, point: usize) -> Near
+    ensures { result ≡ near_in height width seen.now.colours seen.now.liberties seen.now.stones point }
+{
+    let [below, above, right, left] = sides(height, width, point);
     Near {
-        count: count,
-        colours: near_colours,
-        liberties: near_liberties,
-        stones: near_stones,
+        sides: [
+            shown_at(seen, below),
+            shown_at(seen, above),
+            shown_at(seen, right),
+            shown_at(seen, left),
+        ],
     }
+}
+
+// What a true board shows at a point, where there is one.
+fn seen_at(board: &Board, side: Option<usize>) -> Option<Beside>
+    requires { TrueBoard board.now }
+    ensures { result ≡ option_map (seen board.now.height board.now.width (colours_of board.now)) side }
+{
+    let q = side?;
+    if MAX_AREA <= q {
+        return Some(nothing_seen());
+    }
+    let owner = usize::from(board.owners[q]);
+    if SLOTS <= owner {
+        return Some(nothing_seen());
+    }
+    Some(chain_seen(board.chains[owner]))
 }
 
 // A slot that can be read, whatever owns a point: its owner, or the first where nobody does.
@@ -159,7 +172,7 @@ fn shade(owner: usize, colour: u8) -> u8
 }
 
 // What a true board shows for a stone at a row and a column, and the colours of all points, of which the first `read` are known: a row of stones that take
-// nothing need not read them again. The board is lent: by value it would be copied. The second loop reads a slot for every point and chooses after it: a branch
+// nothing need not read them again. The board is lent: by value it would be copied. The loop reads a slot for every point and chooses after it: a branch
 // there cannot be foreseen, and costs more.
 pub fn look_at(
     board: &Board,
@@ -173,63 +186,36 @@ pub fn look_at(
     ensures { Sees board.now row column colours.new result }
 {
     let point = two_to_1dim(board.width, row, column);
-    let around = neighbours(board.height, board.width, point);
-    let beside = around.points;
-    let count = around.count;
-    let mut near_colours = [0u8; 4];
-    let mut near_liberties = [0u16; 4];
-    let mut near_stones = [0u16; 4];
-    let mut side = 0;
-    while side < count {
-        let q = index(beside[side]);
-        let owner = index(board.owners[q]);
-        let mut seen = nothing_seen();
-        if owner < SLOTS {
-            let chain = chain_seen(board.chains[owner]);
-            seen = chain;
-        }
-        near_colours[side] = seen.colour;
-        near_liberties[side] = seen.liberties;
-        near_stones[side] = seen.stones;
-        side += 1;
-    }
-    let points = area(board.height, board.width);
-    let mut p = read;
-    while p < points {
-        let owner = index(board.owners[p]);
-        let slot = readable(owner);
-        let chain = board.chains[slot];
-        colours[p] = shade(owner, chain.colour);
-        p += 1;
-    }
+    let [below, above, right, left] = sides(board.height, board.width, point);
     let near = Near {
-        count: count,
-        colours: near_colours,
-        liberties: near_liberties,
-        stones: near_stones,
+        sides: [
+            seen_at(board, below),
+            seen_at(board, above),
+            seen_at(board, right),
+            seen_at(board, left),
+        ],
     };
+    for p in read..area(board.height, board.width) {
+        let owner = usize::from(board.owners[p]);
+        let slot = readable(owner);
+        colours[p] = shade(owner, board.chains[slot].colour);
+    }
     Sight {
         height: board.height,
         width: board.width,
         hash: board.hash,
-        point: point,
-        near: near,
+        point,
+        near,
     }
 }
 
 // The colours once a stone stands on a point, and how many of them are the board's then: all where no stone was removed; else none are relied on.
+#[tactic(auto, unfolding(crate::specs::Seen::known_after))]
 pub fn keep(colours: &mut [u8; MAX_AREA], point: usize, colour: u8, taken: u16, lost: u16) -> usize
-    requires colours_len { length colours.old ≡ max_area }
     requires point_lt_max_area { point < max_area }
     ensures coloured { colours.new ≡ set colours.old point colour }
     ensures known { result ≡ known_after taken lost }
 {
     colours[point] = colour;
-    if taken != 0 {
-        return 0;
-    }
-    if lost != 0 {
-        return 0;
-    }
-    MAX_AREA
+    if taken == 0 && lost == 0 { MAX_AREA } else { 0 }
 }

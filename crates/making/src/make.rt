@@ -2,14 +2,15 @@
 ghost use Rattle.std.specs.Prelude.{◌≡◌, ◌&&◌, ltb};
 ghost use Rattle.rules.specs.Lists.{any};
 ghost use Rattle.rules.specs.Colours.{white};
+ghost use Rattle.rules.specs.Answers.{number};
 ghost use Rattle.rules.specs.Calls.{side_ok};
+ghost use Rattle.points.specs.Reason.{reason};
 ghost use Rattle.board.specs.Board.{new_board};
 ghost use Rattle.making.specs.Making.{NewBoard, FromColours};
 
 use board::goban::empty_board;
-use hashing::zobrist::table;
 use placing::place::{Placed, place};
-use points::answers::{ACCEPTED, BAD_COLOUR, BAD_LENGTH, BAD_SIZE};
+use points::answers::{ACCEPTED, Refusal};
 use points::coord::area;
 use points::sizes::is_side;
 use points::stones::WHITE;
@@ -21,23 +22,24 @@ fn is_size(height: u8, width: u8) -> bool
 }
 
 // What stands for a board that was refused: an empty 1 × 1 one.
-fn refused(answer: u8) -> Placed
-    ensures { (result.answer ≡ answer) × (result.board ≡ new_board 1 1) }
+fn refused(refusal: Refusal) -> Placed
+    ensures { (result.answer ≡ number (reason refusal)) × (result.board ≡ new_board 1 1) }
 {
-    let board = empty_board(1, 1);
-    Placed { answer, board }
+    Placed {
+        answer: refusal.number(),
+        board: empty_board(1, 1),
+    }
 }
 
 pub fn new_board(height: u8, width: u8) -> Placed
     ensures { NewBoard height width result }
 {
     if !is_size(height, width) {
-        return refused(BAD_SIZE);
+        return refused(Refusal::BadSize);
     }
-    let board = empty_board(height, width);
     Placed {
         answer: ACCEPTED,
-        board,
+        board: empty_board(height, width),
     }
 }
 
@@ -45,14 +47,7 @@ pub fn new_board(height: u8, width: u8) -> Placed
 fn any_unknown(colours: &[u8]) -> bool
     ensures { result ≡ any (ltb white) colours.now }
 {
-    let mut i = 0;
-    while i < colours.len() {
-        if WHITE < colours[i] {
-            return true;
-        }
-        i += 1;
-    }
-    false
+    colours.iter().any(|colour| WHITE < *colour)
 }
 
 pub fn from_colours(height: u8, width: u8, colours: &[u8]) -> Placed
@@ -63,16 +58,14 @@ pub fn from_colours(height: u8, width: u8, colours: &[u8]) -> Placed
         return new;
     }
     if colours.len() != area(height, width) {
-        return refused(BAD_LENGTH);
+        return refused(Refusal::BadLength);
     }
     if any_unknown(colours) {
-        return refused(BAD_COLOUR);
+        return refused(Refusal::BadColour);
     }
-    let board = new.board;
-    let numbers = table();
-    let placed = place(board, &numbers, colours);
+    let placed = place(new.board, colours);
     if placed.answer != ACCEPTED {
-        return refused(placed.answer);
+        return refused(Refusal::NoLiberty);
     }
     placed
 }

@@ -1,15 +1,16 @@
 -- What placing promises: a board that stands as given, by 01's answers.
-use Rattle.std.specs.Prelude.{◌≡◌, true, false, List, [], ◌∷◌, ◌≢◌, ℕ, ◌≤◌, ◌<◌, ◌/◌, ◌%◌, length, take}
+use Rattle.std.specs.Prelude.{◌≡◌, true, false, List, [], ◌∷◌, ◌≢◌, ℕ, ◌≤◌, ◌<◌, ◌/◌, ◌%◌, length, take, Result, Ok, Err}
 use Rattle.rules.specs.Colours.{empty, white, at}
 use Rattle.rules.specs.Points.{area, neighbours}
 use Rattle.rules.specs.Reach.{Reaches}
-use Rattle.rules.specs.Answers.{Answer, NoLiberty, number, accepts, refuse}
+use Rattle.rules.specs.Answers.{Answer, Accepted, NoLiberty, number, accepts, refuse}
 use Rattle.rules.specs.Game.{empty_board}
 use Rattle.rules.specs.Calls.{Spot, choked, lay_black, spots_answer, lay_answer}
 use Rattle.board.specs.declared.goban.Board.{Board}
 use Rattle.board.specs.Board.{colours_of}
 use Rattle.board.specs.True.{TrueBoard}
-use Rattle.placing.specs.declared.handicap.Marked.{Marked}
+use Rattle.points.specs.Reason.{reason}
+use Rattle.points.specs.declared.answers.Refusal.{Refusal}
 use Rattle.placing.specs.declared.place.Placed.{Placed}
 
 -- a true board of this height and width with these colours
@@ -65,10 +66,15 @@ abbrev pub spots_of : List ℕ → List Spot
 spots_of [] = []
 spots_of (n ∷ ns) = spot_of n ∷ spots_of ns
 
--- the colours of the stones on the spots, in an array of as many places as the largest board has points
-pub record MarkedOut (h w : ℕ) (spots : List Spot) (r : Marked) : Type 0 where
-  pub answered : r.answer ≡ number (spots_answer h w (empty_board h w) spots)
-  pub marked : accepts (spots_answer h w (empty_board h w) spots) ≡ true → take (area h w) r.colours ≡ lay_black w (empty_board h w) spots
+-- what going through the spots answers
+abbrev pub told : Result (List ℕ) Refusal → Answer
+told (Ok colours) = Accepted
+told (Err r) = reason r
+
+-- where they are accepted, the colours of the stones on the spots, in an array of as many places as the largest board has points
+pub record MarkedOut (h w : ℕ) (spots : List Spot) (r : Result (List ℕ) Refusal) : Type 0 where
+  pub answered : told r ≡ spots_answer h w (empty_board h w) spots
+  pub marked : (colours : List ℕ) → r ≡ Ok colours → take (area h w) colours ≡ lay_black w (empty_board h w) spots
 
 -- the stones are laid on the board's colours; a refused handicap leaves the very same board
 abbrev pub Handicapped : Board → List Spot → Placed → Type 0

@@ -1,16 +1,13 @@
 -- The numbers that a stone leaves and the state that a handicap does, as the code makes them.
-use Rattle.std.specs.Prelude.{◌≡◌, cond, ℕ, ◌+◌, ◌≤◌, ◌<◌, eqb}
+use Rattle.std.specs.Prelude.{◌≡◌, cond, ℕ, ◌+◌, ◌≤◌, ◌<◌, eqb, Option}
 use Rattle.rules.specs.Sizes.{max_area, max_stones}
 use Rattle.rules.specs.Colours.{black, white, other}
-use Rattle.rules.specs.Answers.{Accepted, number}
 use Rattle.rules.specs.Calls.{one_if}
-use Rattle.points.specs.declared.coord.Place.{Place}
-use Rattle.points.specs.Place.{place_of, Within}
+use Rattle.points.specs.Place.{Within}
 use Rattle.board.specs.declared.goban.Board.{Board}
 use Rattle.game.specs.declared.state.Game.{Game}
 use Rattle.game.specs.declared.state.Tally.{Tally}
 use Rattle.game.specs.declared.clock.Clock.{Clock}
-use Rattle.game.specs.declared.calls.Ticked.{Ticked}
 use Rattle.game.specs.View.{no_point, turn_of, ko_of}
 
 -- no more than a game can put down
@@ -38,11 +35,11 @@ pub record PutAfter (put : Tally) (mover : ℕ) (r : Tally) : Type 0 where
 -- ---- The numbers after a stone
 
 -- what it is to change cannot grow out of its type, and the ko point is a number of its own
-pub record Moving (c : Clock) (place : Place) : Type 0 where
+pub record Moving (c : Clock) (place : Option ℕ) : Type 0 where
   pub held : Few c.held
   pub put : Few c.put
   pub more : c.accepted < max_stones
-  pub within : Within no_point (place_of place)
+  pub within : Within no_point place
 
 unfoldable pub stoned : Clock → ℕ → ℕ → Tally → Tally → ℕ → Clock
 stoned c turn ko held put records =
@@ -60,13 +57,12 @@ stoned c turn ko held put records =
       records = records;
     }
 
-pub record Moved (c : Clock) (records taken lost : ℕ) (place : Place) (r : Ticked) : Type 0 where
-  pub answer : r.answer ≡ number Accepted
-  pub ko : ko_of r.clock.ko ≡ place_of place
-  pub held : HeldAfter c.held (turn_of c.turn) taken lost r.clock.held
-  pub put : PutAfter c.put (turn_of c.turn) r.clock.put
+pub record Moved (c : Clock) (records taken lost : ℕ) (place : Option ℕ) (r : Clock) : Type 0 where
+  pub ko : ko_of r.ko ≡ place
+  pub held : HeldAfter c.held (turn_of c.turn) taken lost r.held
+  pub put : PutAfter c.put (turn_of c.turn) r.put
   -- and the rest
-  pub clock : r.clock ≡ stoned c (other (turn_of c.turn)) r.clock.ko r.clock.held r.clock.put records
+  pub clock : r ≡ stoned c (other (turn_of c.turn)) r.ko r.held r.put records
 
 -- ---- The state after a handicap
 

@@ -1,10 +1,12 @@
 -- The tests of a stone: as they are asked, and what is promised of all of them.
-use Rattle.std.specs.Prelude.{◌≡◌, List, ◌≢◌, Bool, true, false, cond, ℕ, ◌<◌, eqb}
+use Rattle.std.specs.Prelude.{◌≡◌, List, ◌≢◌, Bool, true, false, cond, ℕ, ◌<◌, eqb, Option, None, Some, Result, Ok, Err}
 use Rattle.rules.specs.Sizes.{max_stones}
 use Rattle.rules.specs.Points.{index}
 use Rattle.rules.specs.Records.{record_of, full}
-use Rattle.rules.specs.Answers.{Answer, number, accepts, refuse, ◌then◌, GamePaused, SuperKo, MoveLimit, HistoryFull}
+use Rattle.rules.specs.Answers.{Answer, number, accepts, refuse, ◌then◌, Accepted, GamePaused, SuperKo, MoveLimit, HistoryFull}
 use Rattle.rules.specs.Calls.{point_answer, stone}
+use Rattle.points.specs.declared.answers.Refusal.{Refusal}
+use Rattle.points.specs.Reason.{reason}
 use Rattle.board.specs.declared.goban.Board.{Board}
 use Rattle.board.specs.Board.{colours_of}
 use Rattle.laying.specs.Laying.{Laying}
@@ -16,8 +18,7 @@ use Rattle.game.specs.declared.state.Game.{Game}
 use Rattle.game.specs.declared.clock.Clock.{Clock}
 use Rattle.game.specs.Clock.{game_of}
 use Rattle.game.specs.View.{turn_of, view_of, TrueState, RoomFor, RoomIn}
-use Rattle.checking.specs.declared.superko.Told.{Told}
-use Rattle.checking.specs.Told.{known, undecided}
+use Rattle.checking.specs.Told.{Told, known, undecided}
 use Rattle.checking.specs.Asking.{ToldAt}
 use Rattle.playing.specs.declared.stone.Turn.{Turn}
 use Rattle.playing.specs.Promise.{CalledTrue}
@@ -45,10 +46,10 @@ pub record Granted (g : Game) (bytes : List ℕ) (r c : ℕ) (turn : Turn) (byte
   pub laying : Laying g.board turn.point turn.mover g.flags
   pub noted : Noted bytes g.records (colours_of g.board) turn.records bytes'
 
--- refused: all that a stone promises, with state and bytes as they were
-pub record Tested (g : Game) (bytes : List ℕ) (r c : ℕ) (turn : Turn) (bytes' : List ℕ) : Type 0 where
-  pub refused : turn.answer ≢ 0 → CalledTrue (stone (view_of g) bytes r c) g bytes turn.answer g bytes'
-  pub granted : turn.answer ≡ 0 → Granted g bytes r c turn bytes'
+-- all tests; refused: all that a stone promises, with state and bytes as they were
+abbrev pub Tested : Game → List ℕ → ℕ → ℕ → Result Turn Refusal → List ℕ → Type 0
+Tested g bytes r c (Err e) bytes' = CalledTrue (stone (view_of g) bytes r c) g bytes (number (reason e)) g bytes'
+Tested g bytes r c (Ok turn) bytes' = Granted g bytes r c turn bytes'
 
 -- ---- By what is seen of the board
 
@@ -59,14 +60,17 @@ pub record Ready (s : Sight) (cs : List ℕ) (k : Clock) (n : ℕ) : Type 0 wher
   pub its : record_by s.hash cs ≡ record_of colours
   pub room : RoomFor k.records n
 
--- the last tests, where the board has these colours, and it is known whether the one that the stone leaves is recorded
-pub record Finished (s : Sight) (k : Clock) (cols bytes : List ℕ) (again : Bool) (turn : Turn) (bytes' : List ℕ) : Type 0 where
-  pub decided : turn.undecided ≡ false
+-- the last tests let the stone pass, where the board has these colours
+pub record Passed (s : Sight) (k : Clock) (cols bytes : List ℕ) (again : Bool) (turn : Turn) (bytes' : List ℕ) : Type 0 where
   pub point : turn.point ≡ s.point
   pub mover : turn.mover ≡ turn_of k.turn
-  pub answered : turn.answer ≡ number (last_answer again k.accepted (full bytes k.records cols))
-  pub refused : turn.answer ≢ 0 → bytes' ≡ bytes
-  pub noted : turn.answer ≡ 0 → Noted bytes k.records cols turn.records bytes'
+  pub answered : Accepted ≡ last_answer again k.accepted (full bytes k.records cols)
+  pub noted : Noted bytes k.records cols turn.records bytes'
+
+-- the last tests, where it is known whether the board that the stone leaves is recorded
+abbrev pub Finished : Sight → Clock → List ℕ → List ℕ → Bool → Result Turn Refusal → List ℕ → Type 0
+Finished s k cols bytes again (Err e) bytes' = (reason e ≡ last_answer again k.accepted (full bytes k.records cols)) × (bytes' ≡ bytes)
+Finished s k cols bytes again (Ok turn) bytes' = Passed s k cols bytes again turn bytes'
 
 -- board and numbers are a true state with room in a history of n bytes, and this is seen of the board for a stone
 pub record Shown (b : Board) (s : Sight) (cs : List ℕ) (k : Clock) (n r c : ℕ) : Type 0 where
@@ -82,10 +86,10 @@ pub record Undecided (g : Game) (r c : ℕ) : Type 0 where
   pub passes : first_answer g.passes (known told) ≡ 0
 
 -- all tests, or those without the records, with the bytes as they were
-pub record FirstTested (g : Game) (bytes : List ℕ) (r c : ℕ) (turn : Turn) (bytes' : List ℕ) : Type 0 where
-  pub decided : turn.undecided ≡ false → Tested g bytes r c turn bytes'
-  pub waits : turn.undecided ≡ true → Undecided g r c
-  pub lent : turn.undecided ≡ true → bytes' ≡ bytes
+abbrev pub FirstTested : Game → List ℕ → ℕ → ℕ → Result (Option Turn) Refusal → List ℕ → Type 0
+FirstTested g bytes r c (Err e) bytes' = CalledTrue (stone (view_of g) bytes r c) g bytes (number (reason e)) g bytes'
+FirstTested g bytes r c (Ok (Some turn)) bytes' = Granted g bytes r c turn bytes'
+FirstTested g bytes r c (Ok None) bytes' = Undecided g r c × (bytes' ≡ bytes)
 
 -- some row and column where the records decide
 pub record Settling (b : Board) (s : Sight) (cs : List ℕ) (k : Clock) (n : ℕ) : Type 0 where

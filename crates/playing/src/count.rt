@@ -2,23 +2,22 @@
 ghost use Rattle.std.specs.Prelude.{◌≡◌, not, ◌&&◌, leb};
 ghost use Rattle.rules.specs.Game.{Player};
 ghost use Rattle.rules.specs.Records.{capacity};
-ghost use Rattle.points.specs.Place.{place_of, Within};
+ghost use Rattle.points.specs.Place.{Within};
 ghost use Rattle.history.specs.History.{among, Looking};
 ghost use Rattle.game.specs.View.{no_point, ko_of};
 ghost use Rattle.playing.specs.After.{Few, HeldAfter, PutAfter};
 
 use game::state::{NO_POINT, Tally};
 use history::lent::{capacity_of, is_full};
-use points::coord::Place;
 use points::sizes::RECORD_BYTES;
 use points::stones::BLACK;
 
 // The ko point as the state keeps it.
-pub fn ko_number(place: Place) -> u16
-    requires { Within no_point (place_of place) }
-    ensures { ko_of result ≡ place_of place }
+pub fn ko_number(place: Option<usize>) -> u16
+    requires { Within no_point place }
+    ensures { ko_of result ≡ place }
 {
-    let Place::At(point) = place else {
+    let Some(point) = place else {
         return NO_POINT;
     };
     point as u16
@@ -49,12 +48,12 @@ pub fn put_after(put: Tally, mover: u8) -> Tally
     if mover == BLACK {
         return Tally {
             black: put.black + 1,
-            white: put.white,
+            ..put
         };
     }
     Tally {
-        black: put.black,
         white: put.white + 1,
+        ..put
     }
 }
 

@@ -5,10 +5,8 @@ ghost use Rattle.placing.specs.Placing.{spots_of};
 ghost use Rattle.game.specs.View.{view_of};
 ghost use Rattle.game.specs.Promise.{CalledAlone};
 
-use board::judge::judged;
 use game::calls::Answered;
-use game::clock::clock_of;
-use game::judge::numbers_fit;
+use game::judge::judge_state;
 use game::state::{Game, Tally};
 use placing::handicap::lay_handicap;
 use points::answers::{ACCEPTED, DAMAGED, NOT_AT_START};
@@ -18,19 +16,12 @@ use points::stones::WHITE;
 pub fn handicap(game: Game, spots: &[u16]) -> Answered
     ensures { CalledAlone (rules.handicapped (view_of game) [] (spots_of spots.now)) game result.answer result.game }
 {
-    // held in the answer, and both judges asked here, as for a stone
+    // held in the answer, as for a stone
     let mut answered = Answered {
         answer: DAMAGED,
-        game: game,
+        game,
     };
-    let found = judged(&answered.game.board);
-    let clock = clock_of(answered.game);
-    if !numbers_fit(
-        found,
-        answered.game.board.height,
-        answered.game.board.width,
-        clock,
-    ) {
+    if !judge_state(&answered.game) {
         return answered;
     }
     if answered.game.begun != 0 {
@@ -43,26 +34,17 @@ pub fn handicap(game: Game, spots: &[u16]) -> Answered
         return answered;
     }
     let count = spots.len() as u16;
-    let so_far = answered.game.put;
     let put = Tally {
-        black: so_far.black + (count as u32),
-        white: so_far.white,
+        black: answered.game.put.black + (count as u32),
+        white: answered.game.put.white,
     };
-    let held = answered.game.held;
-    let laid = placed.board;
     let after = Game {
-        board: laid,
-        flags: answered.game.flags,
+        board: placed.board,
         turn: WHITE,
-        passes: answered.game.passes,
-        outcome: answered.game.outcome,
         begun: 1,
-        ko: answered.game.ko,
         handicap: count,
-        accepted: answered.game.accepted,
-        held: held,
-        put: put,
-        records: answered.game.records,
+        put,
+        ..answered.game
     };
     answered.answer = ACCEPTED;
     answered.game = after;

@@ -1,3 +1,3 @@
 -- Laws that the proofs of several functions cite.
 pub mod Grid
-pub mod Around
+pub mod Reasons

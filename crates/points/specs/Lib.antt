@@ -1,4 +1,4 @@
 -- What the promises of this crate cite beside the rules.
 pub mod Place
-pub mod Around
-pub mod Laws
+pub mod Reason
+pub mod Flag

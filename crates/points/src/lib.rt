@@ -4,5 +4,6 @@
 
 pub mod answers;
 pub mod coord;
+pub mod flags;
 pub mod sizes;
 pub mod stones;

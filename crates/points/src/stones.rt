@@ -1,6 +1,5 @@
 // The colours of a point, by the numbers that 01 gives them.
-ghost use Rattle.std.specs.Prelude.{◌≡◌, length};
-ghost use Rattle.rules.specs.Sizes.{max_area};
+ghost use Rattle.std.specs.Prelude.{◌≡◌};
 ghost use Rattle.rules.specs.Colours as colours;
 
 use crate::sizes::MAX_AREA;
@@ -20,7 +19,6 @@ pub fn other(colour: u8) -> u8
 
 // The colour of a point among those of the largest board's; beyond them nothing stands.
 pub fn colour_at(shown: &[u8; MAX_AREA], point: usize) -> u8
-    requires { length shown.now ≡ max_area }
     ensures { result ≡ colours.at shown.now point }
 {
     if MAX_AREA <= point {

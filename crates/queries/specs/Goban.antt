@@ -1,6 +1,6 @@
 -- What the queries on a board's points tell: for each, the result that refuses by a number, with 0 for every value, and what the rules
 -- say of the board's colours.
-use Rattle.std.specs.Prelude.{Bool, false, cond, not, List, ℕ, ltb, get_or}
+use Rattle.std.specs.Prelude.{Bool, false, cond, not, List, ℕ, ltb, get_or, Option, None, Some}
 use Rattle.rules.specs.Sizes.{slots}
 use Rattle.rules.specs.Colours.{empty, at}
 use Rattle.rules.specs.Points.{index}
@@ -10,14 +10,12 @@ use Rattle.board.specs.declared.goban.Board.{Board}
 use Rattle.board.specs.Board.{colours_of}
 use Rattle.queries.specs.declared.goban.ColourAnswer.{ColourAnswer}
 use Rattle.queries.specs.declared.goban.TestAnswer.{TestAnswer}
-use Rattle.queries.specs.declared.goban.Owner.{Owner}
-use Rattle.queries.specs.declared.goban.Owner.TheVariants.{Slot, Nobody}
 
 -- ---- What owns a point
 
 -- a number that names no slot means no chain
-unfoldable pub owner_of : ℕ → Owner
-owner_of s = cond (ltb s slots) (Slot s) Nobody
+unfoldable pub owner_of : ℕ → Option ℕ
+owner_of s = cond (ltb s slots) (Some s) None
 
 unfoldable pub unowned : List ℕ → ℕ → Bool
 unowned owners p = not (ltb (get_or owners p slots) slots)

@@ -1,31 +1,34 @@
 // One entry of a replay that puts no stone, on a game's numbers alone: its kind names the call.
 ghost use Rattle.std.specs.Prelude.{◌≢◌};
+ghost use Rattle.game.specs.Ticked.{number_of, after};
 ghost use Rattle.replaying.specs.Replay.{EntersAlone};
 
-use game::calls::{Ticked, passed, resigned, resumed};
+use game::calls::{passed, resigned, resumed};
 use game::clock::Clock;
-use points::answers::BAD_KIND;
+use points::answers::Refusal;
 use points::stones::{BLACK, WHITE};
 
-// Kinds: 1 pass, 2 and 3 a resignation naming Black or White, 4 resume. Any other is refused before all else; 0 is a stone, which needs board and history.
-pub fn enter(clock: Clock, kind: u8) -> Ticked
-    requires { kind ≢ 0 }
-    ensures { EntersAlone clock kind result.answer result.clock }
+// The kinds, by the numbers that C gives: an entry's kind stays a byte, since its one reader is the match below.
+pub const STONE: u8 = 0;
+
+const PASS: u8 = 1;
+
+const BLACK_RESIGNS: u8 = 2;
+
+const WHITE_RESIGNS: u8 = 3;
+
+const RESUME: u8 = 4;
+
+// Any other kind is refused before all else; a stone needs board and history.
+pub fn enter(clock: Clock, kind: u8) -> Result<Clock, Refusal>
+    requires { kind ≢ STONE }
+    ensures { EntersAlone clock kind (number_of result) (after clock result) }
 {
-    if kind == 1 {
-        return passed(clock);
-    }
-    if kind == 2 {
-        return resigned(clock, BLACK);
-    }
-    if kind == 3 {
-        return resigned(clock, WHITE);
-    }
-    if kind == 4 {
-        return resumed(clock);
-    }
-    Ticked {
-        answer: BAD_KIND,
-        clock: clock,
+    match kind {
+        PASS => passed(clock),
+        BLACK_RESIGNS => resigned(clock, BLACK),
+        WHITE_RESIGNS => resigned(clock, WHITE),
+        RESUME => resumed(clock),
+        _ => Err(Refusal::BadKind),
     }
 }

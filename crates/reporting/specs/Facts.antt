@@ -1,6 +1,5 @@
 -- A game's facts in numbers alone: what the view has, with a number for no ko point and for no outcome.
-use Rattle.std.specs.Prelude.{◌≡◌, false, ℕ}
-use Rattle.std.proofs.Math.Option.{Option, none, some}
+use Rattle.std.specs.Prelude.{◌≡◌, false, ℕ, Option, None, Some}
 use Rattle.rules.specs.Answers.{Accepted, Damaged, number}
 use Rattle.rules.specs.Game as rules
 use Rattle.game.specs.declared.state.Game.{Game}
@@ -9,13 +8,13 @@ use Rattle.game.specs.Asks.{is_over}
 use Rattle.reporting.specs.declared.facts.Facts.{Facts}
 
 abbrev pub ko_number : Option ℕ → ℕ
-ko_number none = no_point
-ko_number (some p) = p
+ko_number None = no_point
+ko_number (Some p) = p
 
 -- a player's number is never 0
 abbrev pub outcome_number : Option ℕ → ℕ
-outcome_number none = 0
-outcome_number (some c) = c
+outcome_number None = 0
+outcome_number (Some c) = c
 
 -- the facts of no game
 unfoldable pub no_facts : Facts

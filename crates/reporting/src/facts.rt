@@ -1,9 +1,8 @@
 // A game's facts in numbers alone, as C can hold them.
 ghost use Rattle.std.specs.Prelude.{◌≡◌};
-ghost use Rattle.game.specs.Asks.{named_of};
 ghost use Rattle.reporting.specs.Facts.{outcome_number, Asked};
 
-use game::asks::{Outcome, facts_of as asked};
+use game::asks::facts_of as asked;
 use game::state::{Game, Tally};
 use playing::count::ko_number;
 use points::stones::EMPTY;
@@ -31,24 +30,16 @@ pub struct Facts {
     pub records: usize,
 }
 
-fn outcome_number(outcome: Outcome) -> u8
-    ensures { result ≡ outcome_number (named_of outcome) }
+fn outcome_number(outcome: Option<u8>) -> u8
+    ensures { result ≡ outcome_number outcome }
 {
-    let Outcome::Named(player) = outcome else {
-        return EMPTY;
-    };
-    player
+    outcome.unwrap_or(EMPTY)
 }
 
 pub fn facts_of(game: Game) -> Facts
     ensures { Asked game result }
 {
     let facts = asked(game);
-    let prisoners = facts.prisoners;
-    let place = facts.ko;
-    let named = facts.outcome;
-    let ko = ko_number(place);
-    let outcome = outcome_number(named);
     Facts {
         answer: facts.answer,
         height: facts.height,
@@ -56,12 +47,12 @@ pub fn facts_of(game: Game) -> Facts
         flags: facts.flags,
         turn: facts.turn,
         passes: facts.passes,
-        outcome: outcome,
+        outcome: outcome_number(facts.outcome),
         over: facts.over,
-        ko: ko,
+        ko: ko_number(facts.ko),
         handicap: facts.handicap,
         accepted: facts.accepted,
-        prisoners: prisoners,
+        prisoners: facts.prisoners,
         records: facts.records,
     }
 }

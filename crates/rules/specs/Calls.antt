@@ -1,7 +1,6 @@
 -- Every call on a game as its players see it: the tests under the names of 01's table, in the order of 01, and what an accepted call
 -- does. A refused call gives back the game and the lent bytes that it got. A state that is not true is refused before all of this (3).
-use Rattle.std.specs.Prelude.{Bool, true, false, cond, not, ◌&&◌, ◌||◌, List, [], ◌∷◌, ◌++◌, ℕ, suc, ◌+◌, eqb, ltb, leb, length, drop}
-use Rattle.std.proofs.Math.Option.{none, some}
+use Rattle.std.specs.Prelude.{Bool, true, false, cond, not, ◌&&◌, ◌||◌, List, [], ◌∷◌, ◌++◌, ℕ, suc, ◌+◌, eqb, ltb, leb, length, drop, None, Some}
 use Rattle.rules.specs.Sizes.{max_side, max_stones, max_flags}
 use Rattle.rules.specs.Lists.{any, pick, below}
 use Rattle.rules.specs.Colours.{empty, black, white, other, at}
@@ -140,7 +139,7 @@ pass_game g =
       passes = g.passes + 1;
       white_held = g.white_held;
       black_held = g.black_held;
-      ko_point = none;
+      ko_point = None;
       outcome = g.outcome;
       handicap = g.handicap;
       accepted = g.accepted;
@@ -166,7 +165,7 @@ resign_game g player =
       white_held = g.white_held;
       black_held = g.black_held;
       ko_point = g.ko_point;
-      outcome = some player;
+      outcome = Some player;
       handicap = g.handicap;
       accepted = g.accepted;
       black_put = g.black_put;

@@ -1,6 +1,5 @@
 -- A game as its players see it, and what makes it true: what 01 says of a true state, but for the chain table and the hash.
-use Rattle.std.specs.Prelude.{◌≡◌, Bool, false, List, ◌⊎◌, ◌≢◌, ℕ, ◌+◌, ◌≤◌, ◌<◌, eqb, length, replicate}
-use Rattle.std.proofs.Math.Option.{Option, none, some}
+use Rattle.std.specs.Prelude.{◌≡◌, Bool, false, List, ◌⊎◌, ◌≢◌, ℕ, ◌+◌, ◌≤◌, ◌<◌, eqb, length, replicate, Option, None, Some}
 use Rattle.rules.specs.Sizes.{max_side, max_area, max_stones, max_flags}
 use Rattle.rules.specs.Lists.{count}
 use Rattle.rules.specs.Colours.{empty, black, white, at}
@@ -49,8 +48,8 @@ fresh_game h w flags =
       passes = 0;
       white_held = 0;
       black_held = 0;
-      ko_point = none;
-      outcome = none;
+      ko_point = None;
+      outcome = None;
       handicap = 0;
       accepted = 0;
       black_put = 0;
@@ -84,7 +83,7 @@ pub record Unbegun (g : Game) : Type 0 where
   pub unput : g.black_put + g.white_put ≡ 0
   pub unrecorded : g.records ≡ 0
   pub unpassed : g.passes ≡ 0
-  pub undecided : g.outcome ≡ none
+  pub undecided : g.outcome ≡ None
 
 pub record TrueGame (g : Game) : Type 0 where
   pub size : TrueSize g.height g.width
@@ -92,8 +91,8 @@ pub record TrueGame (g : Game) : Type 0 where
   pub board : TrueColours g.height g.width g.colours
   pub mover : Player g.turn
   pub pauses : g.passes ≤ 2
-  pub ko_on : (k : ℕ) → g.ko_point ≡ some k → k < area g.height g.width
-  pub named : (c : ℕ) → g.outcome ≡ some c → Player c
+  pub ko_on : (k : ℕ) → g.ko_point ≡ Some k → k < area g.height g.width
+  pub named : (c : ℕ) → g.outcome ≡ Some c → Player c
   pub limited : g.accepted ≤ max_stones
   pub handicapped : g.handicap ≤ max_area
   pub black_kept : g.black_put ≡ stones g.colours black + g.black_held

@@ -1,7 +1,6 @@
 -- The small games of 01, known by heart: one table, one statement. Every definition of the rules that a game can reach is tried here,
 -- by computing, before anything is proved against it.
-use Rattle.std.specs.Prelude.{◌≡◌, refl, Bool, true, false, ◌&&◌, List, [], ◌∷◌, ◌++◌, ℕ, eqb, set, replicate}
-use Rattle.std.proofs.Math.Option.{Option, none, some}
+use Rattle.std.specs.Prelude.{◌≡◌, refl, Bool, true, false, ◌&&◌, List, [], ◌∷◌, ◌++◌, ℕ, eqb, set, replicate, Option, None, Some}
 use Rattle.rules.specs.Lists.{all, below, has, same}
 use Rattle.rules.specs.Colours.{black, white, other, at}
 use Rattle.rules.specs.Points.{area, index, row, column, shifted, towards, sides, neighbours, corners}
@@ -81,46 +80,46 @@ spot r c = record { row = r; column = c }
 unfoldable pub games : List Known
 games =
     -- G1 1×1 [SUICIDE]: (0,0) is 7
-    known 1 1 SUICIDE 1000 (stone_at 0 0 ∷ []) (told (7 ∷ []) (0 ∷ []) 0 0 none 0 black)
+    known 1 1 SUICIDE 1000 (stone_at 0 0 ∷ []) (told (7 ∷ []) (0 ∷ []) 0 0 None 0 black)
     -- G2 1×1 []: (0,0) accepted; board empty, prisoners (0,1), no ko point, one record, White to move
-    ∷ known 1 1 0 1000 (stone_at 0 0 ∷ []) (told (0 ∷ []) (0 ∷ []) 0 1 none 1 white)
+    ∷ known 1 1 0 1000 (stone_at 0 0 ∷ []) (told (0 ∷ []) (0 ∷ []) 0 1 None 1 white)
     -- G3 1×1 [FILLEYE]: (0,0) is 9
-    ∷ known 1 1 FILLEYE 1000 (stone_at 0 0 ∷ []) (told (9 ∷ []) (0 ∷ []) 0 0 none 0 black)
+    ∷ known 1 1 FILLEYE 1000 (stone_at 0 0 ∷ []) (told (9 ∷ []) (0 ∷ []) 0 0 None 0 black)
     -- G4 1×2 [KO]: (0,0), (0,1) accepted, prisoners (0,1), ko point (0,0); then (0,0) is 8
-    ∷ known 1 2 KO 1000 (stone_at 0 0 ∷ stone_at 0 1 ∷ stone_at 0 0 ∷ []) (told (0 ∷ 0 ∷ 8 ∷ []) (0 ∷ 2 ∷ []) 0 1 (some 0) 2 black)
+    ∷ known 1 2 KO 1000 (stone_at 0 0 ∷ stone_at 0 1 ∷ stone_at 0 0 ∷ []) (told (0 ∷ 0 ∷ 8 ∷ []) (0 ∷ 2 ∷ []) 0 1 (Some 0) 2 black)
     -- G5 1×2 [SUPERKO]: (0,0), (0,1), (0,0) accepted (only two records at the third); then (0,1) is 8
     ∷ known 1 2 SUPERKO 1000 (stone_at 0 0 ∷ stone_at 0 1 ∷ stone_at 0 0 ∷ stone_at 0 1 ∷ [])
-    (told (0 ∷ 0 ∷ 0 ∷ 8 ∷ []) (1 ∷ 0 ∷ []) 1 1 (some 1) 3 white)
+    (told (0 ∷ 0 ∷ 0 ∷ 8 ∷ []) (1 ∷ 0 ∷ []) 1 1 (Some 1) 3 white)
     -- G6 1×3 [SUICIDE]: (0,0), pass, (0,2), pass, (0,1) is 7
     ∷ known 1 3 SUICIDE 1000 (stone_at 0 0 ∷ passes ∷ stone_at 0 2 ∷ passes ∷ stone_at 0 1 ∷ [])
-    (told (0 ∷ 0 ∷ 0 ∷ 0 ∷ 7 ∷ []) (1 ∷ 0 ∷ 1 ∷ []) 0 0 none 2 black)
+    (told (0 ∷ 0 ∷ 0 ∷ 0 ∷ 7 ∷ []) (1 ∷ 0 ∷ 1 ∷ []) 0 0 None 2 black)
     -- G7 as G6 with []: accepted, board empty, prisoners (0,3)
     ∷ known 1 3 0 1000 (stone_at 0 0 ∷ passes ∷ stone_at 0 2 ∷ passes ∷ stone_at 0 1 ∷ [])
-    (told (0 ∷ 0 ∷ 0 ∷ 0 ∷ 0 ∷ []) (0 ∷ 0 ∷ 0 ∷ []) 0 3 none 3 white)
+    (told (0 ∷ 0 ∷ 0 ∷ 0 ∷ 0 ∷ []) (0 ∷ 0 ∷ 0 ∷ []) 0 3 None 3 white)
     -- G8 1×3 [KO]: (0,0), (0,1), then (0,0) is 8
-    ∷ known 1 3 KO 1000 (stone_at 0 0 ∷ stone_at 0 1 ∷ stone_at 0 0 ∷ []) (told (0 ∷ 0 ∷ 8 ∷ []) (0 ∷ 2 ∷ 0 ∷ []) 0 1 (some 0) 2 black)
+    ∷ known 1 3 KO 1000 (stone_at 0 0 ∷ stone_at 0 1 ∷ stone_at 0 0 ∷ []) (told (0 ∷ 0 ∷ 8 ∷ []) (0 ∷ 2 ∷ 0 ∷ []) 0 1 (Some 0) 2 black)
     -- G9 1×3 [KO, SUICIDE]: the same, then (0,0) is 7
-    ∷ known 1 3 3 1000 (stone_at 0 0 ∷ stone_at 0 1 ∷ stone_at 0 0 ∷ []) (told (0 ∷ 0 ∷ 7 ∷ []) (0 ∷ 2 ∷ 0 ∷ []) 0 1 (some 0) 2 black)
+    ∷ known 1 3 3 1000 (stone_at 0 0 ∷ stone_at 0 1 ∷ stone_at 0 0 ∷ []) (told (0 ∷ 0 ∷ 7 ∷ []) (0 ∷ 2 ∷ 0 ∷ []) 0 1 (Some 0) 2 black)
     -- G10 1×2: handicap on both points is 13; on (0,0) accepted, White to move
     ∷ known 1 2 0 1000 (handicap_on (spot 0 0 ∷ spot 0 1 ∷ []) ∷ handicap_on (spot 0 0 ∷ []) ∷ [])
-    (told (13 ∷ 0 ∷ []) (1 ∷ 0 ∷ []) 0 0 none 0 white)
+    (told (13 ∷ 0 ∷ []) (1 ∷ 0 ∷ []) 0 0 None 0 white)
     -- G11 9×9 []: pass, pass, resign is 4; after resume Black moves
-    ∷ known 9 9 0 1000 (passes ∷ passes ∷ resigns black ∷ resumes ∷ []) (told (0 ∷ 0 ∷ 4 ∷ 0 ∷ []) (replicate 81 0) 0 0 none 0 black)
+    ∷ known 9 9 0 1000 (passes ∷ passes ∷ resigns black ∷ resumes ∷ []) (told (0 ∷ 0 ∷ 4 ∷ 0 ∷ []) (replicate 81 0) 0 0 None 0 black)
     ∷ known 9 9 0 1000 (passes ∷ passes ∷ resigns black ∷ resumes ∷ stone_at 4 4 ∷ [])
-    (told (0 ∷ 0 ∷ 4 ∷ 0 ∷ 0 ∷ []) (set (replicate 81 0) 40 1) 0 0 none 1 white)
+    (told (0 ∷ 0 ∷ 4 ∷ 0 ∷ 0 ∷ []) (set (replicate 81 0) 40 1) 0 0 None 1 white)
     -- G12 9×9 []: (0,12) is 5. With 99 history bytes (4,4) is 11; with 100 (4,4) goes, then (4,5) is 11
-    ∷ known 9 9 0 1000 (stone_at 0 12 ∷ []) (told (5 ∷ []) (replicate 81 0) 0 0 none 0 black)
-    ∷ known 9 9 0 99 (stone_at 4 4 ∷ []) (told (11 ∷ []) (replicate 81 0) 0 0 none 0 black)
-    ∷ known 9 9 0 100 (stone_at 4 4 ∷ stone_at 4 5 ∷ []) (told (0 ∷ 11 ∷ []) (set (replicate 81 0) 40 1) 0 0 none 1 white)
+    ∷ known 9 9 0 1000 (stone_at 0 12 ∷ []) (told (5 ∷ []) (replicate 81 0) 0 0 None 0 black)
+    ∷ known 9 9 0 99 (stone_at 4 4 ∷ []) (told (11 ∷ []) (replicate 81 0) 0 0 None 0 black)
+    ∷ known 9 9 0 100 (stone_at 4 4 ∷ stone_at 4 5 ∷ []) (told (0 ∷ 11 ∷ []) (set (replicate 81 0) 40 1) 0 0 None 1 white)
     ∷ []
 
 -- ---- The statement: each game is what is known of it
 
 unfoldable pub same_point : Option ℕ → Option ℕ → Bool
-same_point none none = true
-same_point none (some q) = false
-same_point (some p) none = false
-same_point (some p) (some q) = eqb p q
+same_point None None = true
+same_point None (Some q) = false
+same_point (Some p) None = false
+same_point (Some p) (Some q) = eqb p q
 
 unfoldable pub agrees : Known → Bool
 agrees k =

@@ -1,7 +1,14 @@
 -- What the rules do with lists: number points, ask of some or all, count, pick, compare. Nothing here is about Go.
-use Rattle.std.specs.Prelude.{Bool, true, false, cond, ◌&&◌, ◌||◌, ℕ, zero, suc, ◌+◌, eqb}
+use Rattle.std.specs.Prelude.{Bool, true, false, cond, ◌&&◌, ◌||◌, ℕ, zero, suc, ◌+◌, eqb, Option, None, Some}
 use mathlib.Core.List.{List, [], ◌∷◌, Memᴰ}
-use Rattle.std.proofs.Math.Option.{Option, none, some}
+-- some pass the test, all do, and those that do, in order: the library's own words
+pub use Rattle.std.specs.List.{list_any as any, list_all as all, filter as pick}
+use Rattle.std.specs.List.{filter_map}
+
+-- how many pass the test
+abbrev pub count : {A : Type 0} → (A → Bool) → List A → ℕ
+count f [] = 0
+count f (x ∷ xs) = cond (f x) 1 0 + count f xs
 
 module _ {A : Type 0} where
   -- f at the n numbers from i on
@@ -9,29 +16,9 @@ module _ {A : Type 0} where
   tabulate f i zero = []
   tabulate f i (suc n) = f i ∷ tabulate f (suc i) n
 
-  abbrev pub any : (A → Bool) → List A → Bool
-  any f [] = false
-  any f (x ∷ xs) = f x || any f xs
-
-  abbrev pub all : (A → Bool) → List A → Bool
-  all f [] = true
-  all f (x ∷ xs) = f x && all f xs
-
-  -- how many pass the test
-  abbrev pub count : (A → Bool) → List A → ℕ
-  count f [] = 0
-  count f (x ∷ xs) = cond (f x) 1 0 + count f xs
-
-  -- those that pass the test, in order
-  abbrev pub pick : (A → Bool) → List A → List A
-  pick f [] = []
-  pick f (x ∷ xs) = cond (f x) (x ∷ pick f xs) (pick f xs)
-
   -- those that are there
   abbrev pub present : List (Option A) → List A
-  present [] = []
-  present (none ∷ os) = present os
-  present (some x ∷ os) = x ∷ present os
+  present os = filter_map (λ o. o) os
 
   -- no element stands there twice
   abbrev pub Distinct : List A → Type 0

@@ -1,6 +1,5 @@
 -- What a stone does to the colours (Tromp-Taylor 7), and what it takes.
-use Rattle.std.specs.Prelude.{cond, ◌&&◌, List, [], ◌∷◌, ℕ, eqb, set}
-use Rattle.std.proofs.Math.Option.{Option, none, some}
+use Rattle.std.specs.Prelude.{cond, ◌&&◌, List, [], ◌∷◌, ℕ, eqb, set, Option, None, Some}
 use Rattle.rules.specs.Lists.{pick, below}
 use Rattle.rules.specs.Colours.{empty, other, at}
 use Rattle.rules.specs.Points.{area}
@@ -26,6 +25,6 @@ removed h w c before after = pick (λ p. eqb (at before p) c && eqb (at after p)
 -- the ko point: the removed point if exactly one chain was captured and it had one stone, else none. That is so exactly if one
 -- enemy stone was removed
 unfoldable pub sole_of : List ℕ → Option ℕ
-sole_of [] = none
-sole_of (p ∷ []) = some p
-sole_of (p ∷ q ∷ ps) = none
+sole_of [] = None
+sole_of (p ∷ []) = Some p
+sole_of (p ∷ q ∷ ps) = None

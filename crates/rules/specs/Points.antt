@@ -1,6 +1,5 @@
 -- The grid (Tromp-Taylor 1): points, rows and columns, and which points lie beside each other.
-use Rattle.std.specs.Prelude.{cond, ◌≡◌, List, [], ◌∷◌, ◌⊎◌, ℕ, ◌+◌, ◌-◌, ◌*◌, ◌/◌, ◌%◌, ◌<◌, ltb}
-use Rattle.std.proofs.Math.Option.{Option, none, some}
+use Rattle.std.specs.Prelude.{cond, ◌≡◌, List, [], ◌∷◌, ◌⊎◌, ℕ, ◌+◌, ◌-◌, ◌*◌, ◌/◌, ◌%◌, ◌<◌, ltb, Option, None, Some}
 use Rattle.rules.specs.Lists.{present}
 
 -- the number of points of a board of this height and width
@@ -36,18 +35,18 @@ pub data Shift : Type 0 where
   back stay forth : Shift
 
 unfoldable pub shifted : Shift → ℕ → ℕ → Option ℕ
-shifted back n x = cond (ltb 0 x) (some (x - 1)) none
-shifted stay n x = some x
-shifted forth n x = cond (ltb (x + 1) n) (some (x + 1)) none
+shifted back n x = cond (ltb 0 x) (Some (x - 1)) None
+shifted stay n x = Some x
+shifted forth n x = cond (ltb (x + 1) n) (Some (x + 1)) None
 
 abbrev pub joined : ℕ → Option ℕ → Option ℕ → Option ℕ
-joined w none c = none
-joined w (some r) none = none
-joined w (some r) (some c) = some (index w r c)
+joined w None c = None
+joined w (Some r) None = None
+joined w (Some r) (Some c) = Some (index w r c)
 
 -- the point one step from p, if p and that point are on the board
 unfoldable pub towards : ℕ → ℕ → ℕ → Shift → Shift → Option ℕ
-towards h w p dr dc = cond (ltb p (area h w)) (joined w (shifted dr h (row w p)) (shifted dc w (column w p))) none
+towards h w p dr dc = cond (ltb p (area h w)) (joined w (shifted dr h (row w p)) (shifted dc w (column w p))) None
 
 -- the four sides of p, in the order of the crate's `neighbor_coords`: below, above, right, left
 unfoldable pub sides : ℕ → ℕ → ℕ → List (Option ℕ)

@@ -1,7 +1,6 @@
 -- The four tests of 01 for the player to move, at an empty point p of the board: suicide, ko, eye and superko. On colours, the
 -- records and the ko point alone.
-use Rattle.std.specs.Prelude.{Bool, true, false, cond, not, ◌&&◌, ◌||◌, List, [], ◌∷◌, ℕ, eqb, ltb}
-use Rattle.std.proofs.Math.Option.{Option, none, some}
+use Rattle.std.specs.Prelude.{Bool, true, false, cond, not, ◌&&◌, ◌||◌, List, [], ◌∷◌, ℕ, eqb, ltb, Option, None, Some}
 use Rattle.rules.specs.Lists.{any, all, count, pick, present}
 use Rattle.rules.specs.Colours.{empty, other, at}
 use Rattle.rules.specs.Points.{neighbours, corners}
@@ -25,8 +24,8 @@ module _ (h w : ℕ) (cols : List ℕ) where
   -- ---- Ko: the point is the ko point and no neighbouring chain, of either colour, has one liberty and more than one stone.
 
   unfoldable pub is_ko_point : Option ℕ → ℕ → Bool
-  is_ko_point none p = false
-  is_ko_point (some k) p = eqb p k
+  is_ko_point None p = false
+  is_ko_point (Some k) p = eqb p k
 
   unfoldable pub ko : Option ℕ → ℕ → Bool
   ko point p =
@@ -39,8 +38,8 @@ module _ (h w : ℕ) (cols : List ℕ) where
 
   -- own or off the board
   unfoldable pub friendly : ℕ → Option ℕ → Bool
-  friendly own none = true
-  friendly own (some q) = eqb (at cols q) own
+  friendly own None = true
+  friendly own (Some q) = eqb (at cols q) own
 
   unfoldable pub friendly_corners : ℕ → ℕ → ℕ
   friendly_corners own p = count (friendly own) (corners h w p)

@@ -34,7 +34,7 @@ length_merged (suc n) (x ∷ a) [] = refl
 length_merged (suc n) (x ∷ a) (y ∷ b) = ap suc (length_merged n a b)
 
 step : (n : ℕ) (a b : List ℕ) → n < length a → n < length b
-    → set (merged n a b) n (bit_or (get_or a n 0) (get_or b n 0)) ≡ merged (suc n) a b
+    → set (merged n a b) n (bit_or (get_or (merged n a b) n 0) (get_or b n 0)) ≡ merged (suc n) a b
 unfolding merged
 step n [] b h l = absurd (not-suc-le-zero h)
 step n (x ∷ a) [] h l = absurd (not-suc-le-zero l)
@@ -42,9 +42,9 @@ step zero (x ∷ a) (y ∷ b) h l = refl
 step (suc n) (x ∷ a) (y ∷ b) h l = ap (λ (r : List ℕ). bit_or x y ∷ r) (step n a b (le_of_suc-le-suc h) (le_of_suc-le-suc l))
 
 -- a store of the next byte
-pub merged-more : (n : ℕ) (a b : List ℕ) → n < length a → n < length b
-    → set (merged n a b) n (bit_or (get_or a n 0) (get_or b n 0)) ≡ merged (n + 1) a b
-merged-more n a b h l = rw add-one (step n a b h l)
+pub merged-more : (n : ℕ) (a b r : List ℕ) → n < length a → n < length b → r ≡ merged n a b
+    → set r n (bit_or (get_or r n 0) (get_or b n 0)) ≡ merged (n + 1) a b
+merged-more n a b r h l e = rw (add-one, e) (step n a b h l)
 
 get_or-merged : (n : ℕ) (a b : List ℕ) (i : ℕ) → i < n → i < length a → i < length b
     → get_or (merged n a b) i 0 ≡ bit_or (get_or a i 0) (get_or b i 0)

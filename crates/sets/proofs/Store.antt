@@ -13,9 +13,13 @@ use lib.ListN.{get_or, set, length-set}
 use lib.Seq.{get_or-set_same, get_or-set_other}
 use borrow.Author.Tests.{eq-eqb, ne_eqb, lt-ltb, le-ltb}
 use Rattle.rules.specs.Sizes.{max_area, liberty_bytes}
-use Rattle.sets.specs.Liberties.{bit_at, has, set_of, LibertySet, added, removed}
+use Rattle.rules.specs.Lists.{below}
+use Rattle.rules.proofs.Laws.Counting.{count_none}
+use Rattle.sets.specs.Liberties.{liberty_bits, bit_at, has, set_of, LibertySet, none, added, removed, number}
 use Rattle.sets.specs.Laws.Bits.{bit_at-or, bit_at-and, bit_at-xor, bit_at-power}
-use Rattle.sets.specs.Laws.Liberties.{set_is}
+use Rattle.sets.specs.Laws.Liberties.{set_is, number-set_of, number-none}
+use Rattle.std.specs.Cmp.Lexicographic.{same_text, other_text}
+use lib.Pointwise.{pointwise}
 
 -- a byte stored within a set leaves a set
 pub stored-set : (xs : List ℕ) (i v : ℕ) → LibertySet xs → i < liberty_bytes → v < 2 ^ 8 → LibertySet (set xs i v)
@@ -101,3 +105,18 @@ module _ (xs : List ℕ) (p : ℕ) (s : LibertySet xs) where
   remove-beyond h =
       set_is xs (λ q. has xs q && not (eqb q p)) s
       (λ q l. sym (ap (λ (b : Bool). has xs q && not b) (ne_eqb q p (λ e. omega arith)) ∙ and-true (has xs q)))
+
+-- a set other than the empty one has a point
+pub some-not-none : (xs : List ℕ) → LibertySet xs → (ys : List ℕ) → ys ≡ none → not (pointwise eqb xs ys) ≡ ltb 0 (number xs)
+unfolding none
+some-not-none xs s ys e = go (pointwise eqb xs ys) refl
+  where
+    go : (b : Bool) → pointwise eqb xs ys ≡ b → not b ≡ ltb 0 (number xs)
+    go true h =
+        let z : number xs ≡ 0 = ap number (same_text xs ys (sym h) ∙ e) ∙ number-set_of (λ q. false) ∙ count_none (λ q. false) (below liberty_bits) (λ q m. refl) in
+        sym (le-ltb 0 (number xs) (omega arith))
+    go false h =
+        sym (lt-ltb 0 (number xs) (elim (ℕ_discrete (number xs) 0) [
+          | yes z ↦ absurd (other_text xs ys (sym h) (set_is xs (λ q. false) s (λ q l. number-none xs z q l) ∙ sym e))
+          | no n ↦ omega arith
+        ]))

@@ -1,7 +1,6 @@
 // Liberty sets: one bit for each point, as in the crate's group.rs. A set goes in by value and comes back.
-ghost use Rattle.std.specs.Prelude.{◌≡◌, ◌%◌, ◌^◌, eqb, ltb};
-ghost use Rattle.std.specs.Int.Count.{ones};
-ghost use Rattle.sets.specs.Liberties.{LibertySet, has, none, added, removed, united, number};
+ghost use Rattle.std.specs.Prelude.{◌≡◌, ◌%◌, ◌^◌, ◌<◌, eqb, ltb};
+ghost use Rattle.sets.specs.Liberties.{has, none, added, removed, united, number};
 
 use points::sizes::{LIBERTY_BYTES, MAX_AREA};
 
@@ -18,78 +17,52 @@ pub fn empty_liberties() -> [u8; LIBERTY_BYTES]
     [0u8; LIBERTY_BYTES]
 }
 
-// Puts the point into the set, in place. What is no point of the largest board changes nothing.
-pub fn insert_liberty(set: &mut [u8; LIBERTY_BYTES], point: usize)
-    requires { LibertySet set.old }
-    ensures { set.new ≡ added set.old point }
-{
-    if point < MAX_AREA {
-        let i = point / 8;
-        set[i] = set[i] | mask(point);
-    }
-}
-
-// The set with the point.
-pub fn add_liberty(set: [u8; LIBERTY_BYTES], point: usize) -> [u8; LIBERTY_BYTES]
+// The set with the point. What is no point of the largest board changes nothing.
+pub fn add_liberty(mut set: [u8; LIBERTY_BYTES], point: usize) -> [u8; LIBERTY_BYTES]
     ensures { result ≡ added set point }
 {
-    let mut result = set;
-    insert_liberty(&mut result, point);
-    result
+    if point < MAX_AREA {
+        set[point / 8] |= mask(point);
+    }
+    set
 }
 
 // The set without the point.
-pub fn remove_liberty(set: [u8; LIBERTY_BYTES], point: usize) -> [u8; LIBERTY_BYTES]
+pub fn remove_liberty(mut set: [u8; LIBERTY_BYTES], point: usize) -> [u8; LIBERTY_BYTES]
     ensures { result ≡ removed set point }
 {
-    let mut result = set;
     let i = point / 8;
     if i < LIBERTY_BYTES {
-        let byte = result[i];
-        result[i] = byte ^ (byte & mask(point));
+        set[i] ^= set[i] & mask(point);
     }
-    result
+    set
 }
 
+#[tactic(auto, unfolding(crate::specs::Liberties::has, crate::specs::Liberties::bit_at))]
 pub fn contains_liberty(set: [u8; LIBERTY_BYTES], point: usize) -> bool
     ensures { result ≡ has set point }
 {
     let i = point / 8;
-    if i < LIBERTY_BYTES {
-        (set[i] >> (point % 8)) % 2 == 1
-    } else {
-        false
-    }
+    i < LIBERTY_BYTES && (set[i] >> (point % 8)) % 2 == 1
 }
 
 // What either set has.
-pub fn union_liberties(a: [u8; LIBERTY_BYTES], b: [u8; LIBERTY_BYTES]) -> [u8; LIBERTY_BYTES]
+pub fn union_liberties(mut a: [u8; LIBERTY_BYTES], b: [u8; LIBERTY_BYTES]) -> [u8; LIBERTY_BYTES]
     ensures { result ≡ united a b }
 {
-    let mut result = a;
-    let mut i = 0;
-    while i < LIBERTY_BYTES {
-        result[i] = a[i] | b[i];
-        i += 1;
+    // by index: of what is written through `iter_mut` beside `zip` a proof knows nothing
+    for i in 0..LIBERTY_BYTES {
+        a[i] |= b[i];
     }
-    result
-}
-
-// How many bits of the byte are 1.
-fn count_ones(byte: u8) -> usize
-    ensures { result ≡ ones byte }
-{
-    u8::count_ones(byte) as usize
+    a
 }
 
 pub fn number_of_liberties(set: [u8; LIBERTY_BYTES]) -> usize
     ensures { result ≡ number set }
 {
     let mut sum = 0;
-    let mut i = 0;
-    while i < LIBERTY_BYTES {
-        sum += count_ones(set[i]);
-        i += 1;
+    for byte in set {
+        sum += byte.count_ones() as usize;
     }
     sum
 }
@@ -97,14 +70,7 @@ pub fn number_of_liberties(set: [u8; LIBERTY_BYTES]) -> usize
 pub fn any_liberty(set: [u8; LIBERTY_BYTES]) -> bool
     ensures { result ≡ ltb 0 (number set) }
 {
-    let mut i = 0;
-    while i < LIBERTY_BYTES {
-        if set[i] != 0 {
-            return true;
-        }
-        i += 1;
-    }
-    false
+    set != empty_liberties()
 }
 
 // Exactly one liberty is left.

@@ -9,9 +9,7 @@ ghost use Rattle.checking.specs.Promise.{Filled};
 ghost use Rattle.showing.specs.Promise.{Shown};
 
 use board::goban::{Board, empty_board};
-use board::judge::judged;
-use game::clock::clock_of;
-use game::judge::numbers_fit;
+use game::judge::judge_state;
 use game::state::Game;
 use gathering::list::get_empty_coords;
 use listing::list::Listed;
@@ -21,9 +19,7 @@ use points::answers::{ACCEPTED, DAMAGED};
 pub fn empty_points(game: Game, buffer: &mut [u16]) -> Listed
     ensures { Filled (TrueState game) (list_answer game.board.height game.board.width (length buffer.old) (Coloured empty)) (listed game.board.height game.board.width (colours_of game.board) (Coloured empty)) buffer.old result buffer.new }
 {
-    let found = judged(&game.board);
-    let clock = clock_of(game);
-    if !numbers_fit(found, game.board.height, game.board.width, clock) {
+    if !judge_state(&game) {
         return Listed {
             number: DAMAGED,
             count: 0,
@@ -44,18 +40,14 @@ pub struct BoardAnswer {
 pub fn board_of(game: Game) -> BoardAnswer
     ensures { Shown game result }
 {
-    let found = judged(&game.board);
-    let clock = clock_of(game);
-    if !numbers_fit(found, game.board.height, game.board.width, clock) {
-        let nothing = empty_board(1, 1);
+    if !judge_state(&game) {
         return BoardAnswer {
             answer: DAMAGED,
-            board: nothing,
+            board: empty_board(1, 1),
         };
     }
-    let board = game.board;
     BoardAnswer {
         answer: ACCEPTED,
-        board: board,
+        board: game.board,
     }
 }

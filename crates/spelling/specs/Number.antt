@@ -1,6 +1,5 @@
 -- Decimal numbers: a word of digits, of any length, with any zeros before it.
-use Rattle.std.specs.Prelude.{Bool, cond, ◌&&◌, List, [], ◌∷◌, ℕ, ◌+◌, ◌-◌, ◌*◌, min, leb}
-use Rattle.std.proofs.Math.Option.{Option, none, some}
+use Rattle.std.specs.Prelude.{Bool, cond, ◌&&◌, List, [], ◌∷◌, ℕ, ◌+◌, ◌-◌, ◌*◌, min, leb, Option, None, Some}
 use Rattle.rules.specs.Lists.{all}
 
 -- the bytes of the digits 0 to 9
@@ -23,16 +22,16 @@ value n [] = n
 value n (b ∷ l) = value (grown n b) l
 
 unfoldable pub number_of : List ℕ → Option ℕ
-number_of word = cond (all digit word) (some (value 0 word)) none
+number_of word = cond (all digit word) (Some (value 0 word)) None
 
 unfoldable pub consed : Option ℕ → Option (List ℕ) → Option (List ℕ)
-consed none rest = none
-consed (some n) none = none
-consed (some n) (some ns) = some (n ∷ ns)
+consed None rest = None
+consed (Some n) None = None
+consed (Some n) (Some ns) = Some (n ∷ ns)
 
 -- the numbers that the words write; none where one of them writes none
 unfoldable pub numbers : List (List ℕ) → Option (List ℕ)
-numbers [] = some []
+numbers [] = Some []
 numbers (w ∷ ws) = consed (number_of w) (numbers ws)
 
 -- the byte that stands for a number: what no byte holds is the largest byte, and never wraps

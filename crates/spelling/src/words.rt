@@ -1,82 +1,63 @@
 // The words of a text: runs of bytes between blanks.
-ghost use Rattle.std.specs.Prelude.{◌≡◌, false, ◌≤◌, ◌<◌, length, get_or};
-ghost use Rattle.spelling.specs.Text.{text_length, blank};
-ghost use Rattle.spelling.specs.Steps.{Skipped, Ended, Parted};
+ghost use Rattle.std.specs.Prelude.{◌≡◌, ◌≤◌, ◌<◌, length, IfSome};
+ghost use Rattle.spelling.specs.Text.{text_of, blank, words};
+ghost use Rattle.spelling.specs.Steps.{blanks, letters, ended, spelled};
 
-const TAB: u8 = 9;
-
-const CARRIAGE_RETURN: u8 = 13;
-
-const SPACE: u8 = 32;
-
-// Where a word stands. Start and end are the same where there is none.
+// A word, and the text behind it.
 #[derive(Clone, Copy)]
-pub struct Word {
-    pub start: usize,
-    pub end: usize,
+pub struct Word<'a> {
+    pub bytes: &'a [u8],
+    pub behind: &'a [u8],
 }
 
-// How many bytes of the line are its text: a carriage return at its end is none.
-pub fn text_length(line: &[u8]) -> usize
-    ensures { result ≡ text_length line.now }
+// The text of a line: a carriage return at its end is none of it.
+pub fn text_of(line: &[u8]) -> &[u8]
+    ensures { result.now ≡ text_of line.now }
 {
-    let length = line.len();
-    if length == 0 {
-        return 0;
-    }
-    let last = length - 1;
-    if line[last] == CARRIAGE_RETURN {
-        return last;
-    }
-    length
+    line.strip_suffix(b"\r").unwrap_or(line)
 }
 
+#[tactic(auto, unfolding(crate::specs::Text::blank))]
 fn is_blank(byte: u8) -> bool
     ensures { result ≡ blank byte }
 {
-    byte == SPACE || byte == TAB
+    matches!(byte, b' ' | b'\t')
 }
 
-// The first place from here on that is no blank.
-fn skip_blanks(text: &[u8], from: usize) -> usize
-    requires { from ≤ length text.now }
-    ensures { Skipped text.now from result }
+// How many blanks a text begins with.
+fn blanks(text: &[u8]) -> usize
+    ensures counted { result ≡ blanks text.now }
+    ensures within { result ≤ length text.now }
 {
-    let mut at = from;
-    while at < text.len() {
-        if is_blank(text[at]) {
-            at += 1;
-        } else {
-            return at;
-        }
-    }
-    at
+    text.iter().take_while(|byte| is_blank(**byte)).count()
 }
 
-// Where the word that begins here ends.
-fn word_end(text: &[u8], start: usize) -> usize
-    requires { (start < length text.now) × (blank (get_or text.now start 0) ≡ false) }
-    ensures { Ended text.now start result }
+// How many bytes that are no blanks a text begins with.
+fn letters(text: &[u8]) -> usize
+    ensures counted { result ≡ letters text.now }
+    ensures within { result ≤ length text.now }
 {
-    let mut at = start + 1;
-    while at < text.len() {
-        if is_blank(text[at]) {
-            return at;
-        }
-        at += 1;
-    }
-    at
+    text.iter().take_while(|byte| !is_blank(**byte)).count()
 }
 
-// The first word from here on.
-pub fn next_word(text: &[u8], from: usize) -> Word
-    requires { from ≤ length text.now }
-    ensures { Parted text.now from result }
+// The first word of a text, if it has one.
+pub fn next_word(text: &[u8]) -> Option<Word>
+    ensures parted { words text.now ≡ spelled result }
+    ensures shorter { IfSome result (λ word. length word.behind.now < length text.now) }
 {
-    let start = skip_blanks(text, from);
-    if start == text.len() {
-        return Word { start, end: start };
+    let word = &text[blanks(text)..];
+    let end = letters(word);
+    if end == 0 {
+        return None;
     }
-    let end = word_end(text, start);
-    Word { start, end }
+    let (bytes, behind) = word.split_at(end);
+    Some(Word { bytes, behind })
+}
+
+// No word is left.
+#[tactic(auto, unfolding(crate::specs::Steps::ended))]
+pub fn at_end(text: &[u8]) -> bool
+    ensures { result ≡ ended (words text.now) }
+{
+    next_word(text).is_none()
 }

@@ -1,6 +1,5 @@
 -- The state of a game as text.
-use Rattle.std.specs.Prelude.{cond, List, [], ◌∷◌, ◌++◌, ℕ, eqb}
-use Rattle.std.proofs.Math.Option.{Option, none, some}
+use Rattle.std.specs.Prelude.{cond, List, [], ◌∷◌, ◌++◌, ℕ, eqb, Option, None, Some}
 use Rattle.rules.specs.Colours.{white}
 use Rattle.rules.specs.Points.{area}
 use Rattle.rules.specs.Game.{Game}
@@ -13,8 +12,8 @@ unfoldable pub player : ℕ → ℕ
 player c = cond (eqb c white) 87 66
 
 abbrev pub named : Option ℕ → List ℕ
-named none = ascii "-"
-named (some c) = player c ∷ []
+named None = ascii "-"
+named (Some c) = player c ∷ []
 
 -- turn, passes, White stones removed, Black stones removed, ko point on a board of this width, outcome, records
 unfoldable pub facts : ℕ → ℕ → ℕ → ℕ → ℕ → Option ℕ → Option ℕ → ℕ → List ℕ

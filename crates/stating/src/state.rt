@@ -1,76 +1,76 @@
 // What a reply says of a game: its facts, then the rows of its board.
-ghost use Rattle.std.specs.Prelude.{◌≡◌, ◌+◌, ◌≤◌, length};
-ghost use Rattle.game.specs.Asks.{named_of};
+ghost use Rattle.std.specs.Prelude.{◌≡◌, ◌+◌, ◌≤◌, ◌++◌, length};
 ghost use Rattle.writing.specs.Figures.{spaced};
-ghost use Rattle.writing.specs.Put.{Put};
 ghost use Rattle.stating.specs.State.{player, named};
 ghost use Rattle.stating.specs.Said.{told, Stated};
 
 use drawing::draw::to_vec;
-use game::asks::{Facts, Outcome, facts_of};
+use game::asks::{Facts, facts_of};
 use game::state::Game;
 use points::answers::ACCEPTED;
 use points::coord::area;
 use points::sizes::MAX_AREA;
 use points::stones::{EMPTY, WHITE};
-use wording::replies::{DASH, SPACE, put_place, put_rows};
+use wording::replies::{put_place, put_rows};
 use writing::figures::{put_number, put_spaced};
-use writing::put::put_byte;
+use writing::text::{REPLY_BYTES, Text};
 
 // B or W.
+#[tactic(auto, unfolding(crate::specs::State::player))]
 fn player_sign(colour: u8) -> u8
     ensures { result ≡ player colour }
 {
-    if colour == WHITE {
-        return b'W';
-    }
-    b'B'
+    if colour == WHITE { b'W' } else { b'B' }
 }
 
-fn put_outcome(out: &mut [u8], at: usize, outcome: Outcome) -> usize
-    requires { at + 2 ≤ length out.old }
-    ensures put { Put (spaced (named (named_of outcome))) out.old at result out.new }
-    ensures upper_bound { result ≤ at + 2 }
+#[tactic(auto, unfolding(writing::specs::Figures::spaced))]
+fn put_outcome(out: &mut Text, outcome: Option<u8>)
+    requires { length out.old.items + 2 ≤ REPLY_BYTES }
+    ensures put { out.new.items ≡ out.old.items ++ spaced (named outcome) }
+    ensures upper_bound { length out.new.items ≤ length out.old.items + 2 }
 {
-    let next = put_byte(out, at, SPACE);
+    out.push(b' ');
     match outcome {
-        Outcome::Open => put_byte(out, next, DASH),
-        Outcome::Named(colour) => put_byte(out, next, player_sign(colour)),
+        None => out.push(b'-'),
+        Some(colour) => out.push(player_sign(colour)),
     }
 }
 
 // Turn, passes, prisoners, ko point, outcome and records.
-fn put_facts(out: &mut [u8], facts: Facts) -> usize
-    requires { 130 ≤ length out.old }
-    ensures put { Put (told facts) out.old 0 result out.new }
-    ensures upper_bound { result ≤ 130 }
+#[tactic(auto, unfolding(crate::specs::Said::told, crate::specs::State::facts))]
+fn put_facts(out: &mut Text, facts: Facts)
+    requires { length out.old.items + 130 ≤ REPLY_BYTES }
+    ensures put { out.new.items ≡ out.old.items ++ told facts }
+    ensures upper_bound { length out.new.items ≤ length out.old.items + 130 }
 {
     let held = facts.prisoners;
-    let ko = facts.ko;
-    let outcome = facts.outcome;
-    let turn = put_byte(out, 0, player_sign(facts.turn));
-    let passes = put_spaced(out, turn, facts.passes as u64);
-    let white = put_spaced(out, passes, held.white as u64);
-    let black = put_spaced(out, white, held.black as u64);
-    let place = put_place(out, black, facts.width, ko);
-    let end = put_outcome(out, place, outcome);
-    put_spaced(out, end, facts.records as u64)
+    out.push(player_sign(facts.turn));
+    put_spaced(out, u64::from(facts.passes));
+    put_spaced(out, u64::from(held.white));
+    put_spaced(out, u64::from(held.black));
+    put_place(out, facts.width, facts.ko);
+    put_outcome(out, facts.outcome);
+    put_spaced(out, facts.records as u64);
 }
 
 // The state of a game, or 3 where it is not true.
-pub fn put_state(out: &mut [u8], game: Game) -> usize
-    requires { 1024 ≤ length out.old }
-    ensures { Stated game out.old result out.new }
+pub fn put_state(out: &mut Text, game: Game)
+    requires { length out.old.items + 1024 ≤ REPLY_BYTES }
+    ensures { Stated game out.old.items out.new.items }
 {
     let facts = facts_of(game);
     if facts.answer != ACCEPTED {
-        return put_number(out, 0, facts.answer as u64);
+        put_number(out, u64::from(facts.answer));
+        return;
     }
-    let mut colours = [EMPTY; MAX_AREA];
     let board = game.board;
+    let mut colours = [EMPTY; MAX_AREA];
     to_vec(board, &mut colours);
-    let end = area(board.height, board.width);
-    let next = put_facts(out, facts);
-    let rows = put_byte(out, next, SPACE);
-    put_rows(out, rows, board.width, &colours, end)
+    put_facts(out, facts);
+    out.push(b' ');
+    put_rows(
+        out,
+        board.width,
+        &colours[..area(board.height, board.width)],
+    );
 }

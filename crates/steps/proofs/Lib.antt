@@ -1,3 +1,4 @@
 -- What the proofs of several functions share.
 pub mod Walked
-pub mod Turns
+pub mod Growing
+pub mod Sides

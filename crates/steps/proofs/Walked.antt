@@ -1,18 +1,21 @@
 -- What `walk` writes for a chain of an exact table: its whole ring, so all its stones and no more.
-use mathlib.Core.Path.{◌≡◌, ap, ap₂, ◌∙◌}
+use mathlib.Core.Path.{◌≡◌, refl, ap, ap₂, ◌∙◌}
 use mathlib.Core.List.{List, ◌++◌}
-use Prim.Native.Nat.{ℕ, ◌+◌, ◌-◌, ◌≤◌, ◌<◌}
+use Prim.Native.Nat.{ℕ, ◌≤◌, ◌<◌}
 use native.Mathlib.Omega.{arith}
 use lib.Dec.{eqb}
-use lib.ListN.{length, get_or, take, drop, replicate, length-append, length-drop, length-replicate, get_or-append}
+use lib.ListN.{get_or, take}
 use lib.Seq.{take_at}
 use Rattle.rules.specs.Sizes.{max_area}
-use Rattle.rules.specs.Lists.{count, below}
+use Rattle.rules.specs.Lists.{below}
 use Rattle.rules.specs.Points.{area}
 use Rattle.rules.proofs.Laws.Lists.{length-below}
 use Rattle.rules.proofs.Laws.Counting.{count_most}
 use Rattle.chains.specs.Walk.{stepped, walked, walk_length}
 use Rattle.chains.specs.Laws.Walk.{length-walked, get_or-walked, walk_length-whole}
+use Rattle.rules.proofs.Laws.Lists.{get_d_default}
+use Rattle.chains.specs.declared.group.Chain.{Chain}
+use Rattle.chains.specs.Group.{free_chain}
 use Rattle.board.specs.declared.goban.Board.{Board}
 use Rattle.board.specs.Board.{owner, chain_in}
 use Rattle.board.specs.True.{ExactChain}
@@ -37,46 +40,29 @@ module _ (b : Board) (s : ℕ) (is : Removing b s) where
   step-on k l = owned-within b is.table s is.low is.is-used (stepped b.next (chain_in b s).origin k) (chain.linked k l)
 
   pub walkable :
-      (owners : List ℕ) (origin count : ℕ) → length owners ≡ max_area → origin ≡ (chain_in b s).origin → count ≡ (chain_in b s).count
-      → Walkable owners b.next origin count
-  walkable owners origin count places from many = record {
-    places = places;
-    links = is.table.shape.links;
-    points = λ k l. rw from (step-on k (omega (arith, many)));
+      (next : List ℕ) (c : Chain) → next ≡ b.next → c ≡ chain_in b s → Walkable next c.origin c.count × (walked next c.origin c.count ≡ ring b s)
+  walkable next c kept is = rw (kept, is) (record { points = step-on }, refl)
+
+  -- the chain that is read is the slot's, whatever is read past the end
+  pub read : (past : Chain) → get_or b.chains s past ≡ chain_in b s
+  unfolding chain_in
+  read past = get_d_default b.chains s past free_chain (omega (arith, is.low, is.table.shape.chains))
+
+  pub ring-points : Points (ring b s)
+  ring-points = record {
+    each = λ k l.
+        let low : k < (chain_in b s).count = omega (arith, length-walked b.next (chain_in b s).origin (chain_in b s).count) in
+        rw (get_or-walked b.next (chain_in b s).origin (chain_in b s).count k 0 low) (step-on k low);
   }
 
-  pub walked-ring :
-      (origin count : ℕ) → origin ≡ (chain_in b s).origin → count ≡ (chain_in b s).count → walked b.next origin count ≡ ring b s
-  walked-ring origin count from many = ap₂ (walked b.next) from many
-
   module _ (origin count n : ℕ) (stones : List ℕ) (from : origin ≡ (chain_in b s).origin) (many : count ≡ (chain_in b s).count)
-      (wrote : n ≡ walk_length b.next origin count) (written : stones ≡ walked b.next origin n ++ drop n (replicate max_area 0)) where
+      (wrote : n ≡ walk_length b.next origin count) where
     wrote-all : n ≡ (chain_in b s).count
     wrote-all =
         wrote ∙ ap₂ (λ (o m : ℕ). walk_length b.next o m) from many
         ∙ walk_length-whole b.next (chain_in b s).origin (chain_in b s).count count_fits step-on
 
-    wrote-ring : take n stones ≡ ring b s
-    wrote-ring =
-        ap (take n) written ∙ take_at (walked b.next origin n) (drop n (replicate max_area 0)) n (length-walked b.next origin n)
-        ∙ walked-ring origin n from wrote-all
-
-    wrote-points : Points stones n
-    wrote-points = record {
-      long =
-          ap length written ∙ length-append (walked b.next origin n) (drop n (replicate max_area 0))
-          ∙ ap₂ (λ (i j : ℕ). i + j) (length-walked b.next origin n)
-          (length-drop n (replicate {A = ℕ} max_area 0) ∙ ap (λ (i : ℕ). i - n) (length-replicate {A = ℕ} max_area 0))
-          ∙ omega (arith, wrote-all, count_fits);
-      few = omega (arith, wrote-all, count_fits);
-      each = λ k l. rw (place k l) (step-on k (omega (arith, wrote-all)));
-    }
-      where
-        place : (k : ℕ) → k < n → get_or stones k 0 ≡ stepped b.next (chain_in b s).origin k
-        place k l =
-            ap (λ (xs : List ℕ). get_or xs k 0) written
-            ∙ get_or-append (walked b.next origin n) (drop n (replicate max_area 0)) 0 k (omega (arith, length-walked b.next origin n))
-            ∙ get_or-walked b.next origin n k 0 l ∙ ap (λ (o : ℕ). stepped b.next o k) from
-
-    pub wrote-chain : (take n stones ≡ ring b s) × Points stones n
-    wrote-chain = (wrote-ring, wrote-points)
+    pub wrote-ring : (rest : List ℕ) → stones ≡ walked b.next origin n ++ rest → take n stones ≡ ring b s
+    wrote-ring rest written =
+        ap (take n) written ∙ take_at (walked b.next origin n) rest n (length-walked b.next origin n)
+        ∙ ap₂ (walked b.next) from wrote-all

@@ -1,6 +1,5 @@
 -- What the steps of laying a stone do to a board, and when each may be made.
 pub mod Steps
-pub mod Numbers
 pub mod Links
 pub mod Putting
 pub mod Joining

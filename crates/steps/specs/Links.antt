@@ -1,5 +1,5 @@
 -- What the links of a board lead through: a walk that stays among the points, and a ring that goes round one chain.
-use Rattle.std.specs.Prelude.{◌≡◌, List, ℕ, ◌+◌, ◌<◌, length, get_or}
+use Rattle.std.specs.Prelude.{◌≡◌, List, ℕ, ◌+◌, ◌<◌, get_or}
 use Rattle.rules.specs.Sizes.{max_area}
 use Rattle.rules.specs.Lists.{Distinct}
 use Rattle.chains.specs.declared.group.Chain.{Chain}
@@ -7,17 +7,9 @@ use Rattle.chains.specs.Walk.{stepped, walked}
 use Rattle.board.specs.declared.goban.Board.{Board}
 use Rattle.board.specs.Board.{owner}
 
--- the count links from origin on lead from point to point, each with a place among the owners and the links
-pub record Walkable (owners next : List ℕ) (origin count : ℕ) : Type 0 where
-  pub places : length owners ≡ max_area
-  pub links : length next ≡ max_area
+-- the count links from origin on lead from point to point
+pub record Walkable (next : List ℕ) (origin count : ℕ) : Type 0 where
   pub points : (k : ℕ) → k < count → stepped next origin k < max_area
-
--- the two last stones have a place among the links
-pub record Linkable (next : List ℕ) (l m : ℕ) : Type 0 where
-  pub links : length next ≡ max_area
-  pub first : l < max_area
-  pub second : m < max_area
 
 -- the links lead from o round n points, all owned by s, to l and back
 pub record Ring (next : List ℕ) (own : ℕ → ℕ) (s o l n : ℕ) : Type 0 where

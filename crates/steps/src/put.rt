@@ -10,18 +10,12 @@ use points::sizes::SLOTS;
 use sets::liberties::remove_liberty;
 
 // The chain without the liberty.
+#[tactic(auto, unfolding(crate::specs::Steps::loses))]
 pub fn without(chain: Chain, point: usize) -> Chain
     ensures { result ≡ loses point chain }
 {
-    let before = chain.liberties;
-    let liberties = remove_liberty(before, point);
-    Chain {
-        liberties: liberties,
-        colour: chain.colour,
-        origin: chain.origin,
-        last: chain.last,
-        count: chain.count,
-    }
+    let liberties = remove_liberty(chain.liberties, point);
+    Chain { liberties, ..chain }
 }
 
 // The chain with the point as a liberty, if no chain owns it.
@@ -29,7 +23,8 @@ pub fn opened(chain: Chain, owner: usize, point: usize) -> Chain
     ensures { result ≡ cond (eqb owner slots) (gains point chain) chain }
 {
     if owner == SLOTS {
-        return gain(chain, point);
+        gain(chain, point)
+    } else {
+        chain
     }
-    chain
 }

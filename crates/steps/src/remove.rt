@@ -1,112 +1,91 @@
-// Removing a chain: its points are owned by none, and each is a liberty of the chains beside it.
-ghost use Rattle.std.specs.Prelude.{◌≡◌, length, take};
-ghost use Rattle.rules.specs.Sizes.{max_area};
+// Removing a chain: its points are owned by none, and each is a liberty of the chains beside it. The board is lent: by value it would
+// be copied.
+ghost use Rattle.std.specs.Prelude.{◌≡◌, ◌<◌};
+ghost use Rattle.rules.specs.Sizes.{slots};
+ghost use Rattle.rules.specs.Points as rules;
+ghost use Rattle.owning.specs.Owners.{owner_in};
 ghost use Rattle.steps.specs.Steps as steps;
-ghost use Rattle.steps.specs.Numbers.{Numbers};
-ghost use Rattle.steps.specs.Removing.{Removing, Points, gainer};
+ghost use Rattle.steps.specs.Removing.{Removing, Points};
 
 use crate::join::own;
 use board::goban::Board;
 use chains::group::{Chain, free_chain, index, walk};
 use hashing::zobrist::stone_hash;
-use points::coord::{Place, neighbour};
-use points::sizes::{HASH_ENTRIES, MAX_AREA, SLOTS};
+use owning::owners::owner_at;
+use points::coord::sides;
+use points::sizes::{MAX_AREA, SLOTS};
 use sets::liberties::add_liberty;
 
 // The chain with one liberty more.
+#[tactic(auto, unfolding(crate::specs::Steps::gains))]
 pub fn gain(chain: Chain, point: usize) -> Chain
     ensures { result ≡ steps.gains point chain }
 {
-    let before = chain.liberties;
-    let liberties = add_liberty(before, point);
-    Chain {
-        liberties: liberties,
-        colour: chain.colour,
-        origin: chain.origin,
-        last: chain.last,
-        count: chain.count,
-    }
+    let liberties = add_liberty(chain.liberties, point);
+    Chain { liberties, ..chain }
 }
 
-// The slot of the chain on one side of a stone of the slot that is removed: none where that side is off the board, where no chain
-// stands, and where the stone beside is of the same chain.
-fn gaining_slot(
+// The chains beside a stone gain its point, but for the chain of the slot, which is removed.
+fn grow_beside(
     owners: &[u16; MAX_AREA],
+    chains: &mut [Chain; SLOTS],
     height: u8,
     width: u8,
     slot: usize,
     point: usize,
-    direction: usize,
-) -> usize
-    requires { length owners.now ≡ max_area }
-    ensures { result ≡ gainer owners.now height width slot point direction }
+)
+    requires { slot < slots }
+    ensures { chains.new ≡ steps.gaining (owner_in owners.now) slot point (rules.neighbours height width point) chains.old }
 {
-    let Place::At(beside) = neighbour(height, width, point, direction) else {
-        return SLOTS;
-    };
-    if MAX_AREA <= beside {
-        return SLOTS;
-    }
-    let owner = index(owners[beside]);
-    if owner == slot {
-        return SLOTS;
-    }
-    owner
-}
-
-// The hash without stones of this colour on the points of the list.
-fn unhash(
-    numbers: &[u64; HASH_ENTRIES],
-    stones: &[u16; MAX_AREA],
-    count: usize,
-    colour: u8,
-    hash: u64,
-) -> u64
-    requires points { Points stones.now count }
-    requires numbers { Numbers numbers.now }
-    ensures { result ≡ steps.unhashed colour (take count stones.now) hash }
-{
-    let mut result = hash;
-    let mut k = 0;
-    while k < count {
-        let point = index(stones[k]);
-        result = result ^ stone_hash(numbers, point, colour);
-        k += 1;
-    }
-    result
-}
-
-// The board without the chain in the slot.
-pub fn remove_chain(board: Board, numbers: &[u64; HASH_ENTRIES], slot: usize) -> Board
-    requires removing { Removing board slot }
-    requires numbers { Numbers numbers.now }
-    ensures { result ≡ steps.remove board slot }
-{
-    let next = board.next;
-    let mut result = board;
-    let chain = result.chains[slot];
-    let mut stones = [0u16; MAX_AREA];
-    let origin = index(chain.origin);
-    let count = index(chain.count);
-    let walked = walk(&next, origin, count, &mut stones);
-    let height = result.height;
-    let width = result.width;
-    let turns = 4 * walked;
-    let mut k = 0;
-    while k < turns {
-        let point = index(stones[k / 4]);
-        let gainer = gaining_slot(&result.owners, height, width, slot, point, k % 4);
-        k += 1;
-        if gainer < SLOTS {
-            let entry = result.chains[gainer];
-            let grown = gain(entry, point);
-            result.chains[gainer] = grown;
+    for side in sides(height, width, point) {
+        if let Some(beside) = side {
+            let owner = owner_at(owners, beside);
+            if owner != slot && owner < SLOTS {
+                let chain = chains[owner];
+                chains[owner] = gain(chain, point);
+            }
         }
     }
-    own(&mut result.owners, &next, chain, SLOTS);
-    let hash = unhash(numbers, &stones, walked, chain.colour, result.hash);
-    result.hash = hash;
-    let free = free_chain();
-    result.chains[slot] = free;
+}
+
+// The hash without stones of this colour on the points.
+fn unhash(stones: &[u16], colour: u8, hash: u64) -> u64
+    requires { Points stones.now }
+    ensures { result ≡ steps.unhashed colour stones.now hash }
+{
+    let mut result = hash;
+    for stone in stones {
+        result ^= stone_hash(index(*stone), colour);
+    }
     result
+}
+
+// The board loses the chain in the slot.
+pub fn remove_chain(board: &mut Board, slot: usize)
+    requires { Removing board.old slot }
+    ensures { board.new ≡ steps.remove board.old slot }
+{
+    let chain = board.chains[slot];
+    let mut ring = [0u16; MAX_AREA];
+    let walked = walk(
+        &board.next,
+        index(chain.origin),
+        index(chain.count),
+        &mut ring,
+    );
+    let stones = &ring[..walked];
+    for stone in stones {
+        let point = index(*stone);
+        grow_beside(
+            &board.owners,
+            &mut board.chains,
+            board.height,
+            board.width,
+            slot,
+            point,
+        );
+    }
+    own(&mut board.owners, &board.next, chain, SLOTS);
+    board.hash = unhash(stones, chain.colour, board.hash);
+    board.chains[slot] = free_chain();
 }

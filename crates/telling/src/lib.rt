@@ -1,4 +1,4 @@
-// Floor 5, the desk: the calls whose reply is a number.
+// Floor 5, the desk: a reply that is a number.
 #![tactic(auto)]
 
 pub mod calls;

@@ -1,9 +1,8 @@
 -- Which points are in a list, by what a view shows of them: the tests that the code makes. A law of the lists proves them equal to the rules'.
-use Rattle.std.specs.Prelude.{Bool, true, false, cond, not, ◌&&◌, List, ◌≡◌, ℕ, ◌≤◌, ◌<◌, eqb, length, get_or}
-use Rattle.rules.specs.Sizes.{max_area}
+use Rattle.std.specs.Prelude.{Bool, true, false, cond, not, ◌&&◌, List, ℕ, ◌<◌, eqb, get_or}
 use Rattle.rules.specs.Lists.{any}
 use Rattle.rules.specs.Colours.{empty, at}
-use Rattle.rules.specs.Points.{area, index, neighbours}
+use Rattle.rules.specs.Points.{index, neighbours}
 use Rattle.viewing.specs.declared.shows.Local.{Local}
 use Rattle.viewing.specs.declared.shows.Local.TheVariants.{Chain, Liberties, Points, Stones, Empties, Chains}
 use Rattle.viewing.specs.declared.shows.Question as asks
@@ -32,13 +31,7 @@ passed h w cols leads questions.Stones q = not (eqb (at cols q) empty)
 passed h w cols leads (questions.Coloured c) q = eqb (at cols q) c
 passed h w cols leads (questions.At r c local) q = near h w cols leads (index w r c) local q
 
--- ---- What the code asks
-
--- a view of a board that fits it
-pub record Seen (cols leads : List ℕ) (h w : ℕ) : Type 0 where
-  pub painted : length cols ≡ max_area
-  pub led : length leads ≡ max_area
-  pub fits : area h w ≤ max_area
+-- ---- What is asked
 
 -- the point that is asked about, if there is one, is on the board
 abbrev pub OnBoard : ℕ → ℕ → asks.Question → Type 0

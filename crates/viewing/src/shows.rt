@@ -1,13 +1,13 @@
 // What can be asked of a board that a list of points answers, and the test that tells which points are in the list.
-ghost use Rattle.std.specs.Prelude.{◌≡◌, ◌≤◌, ◌<◌, length};
-ghost use Rattle.rules.specs.Sizes.{max_area};
-ghost use Rattle.rules.specs.Points.{area};
-ghost use Rattle.viewing.specs.Seen.{key_of, meets, near, passed, Seen, OnBoard};
+ghost use Rattle.std.specs.Prelude.{◌≡◌, true, eqb, get_or};
+ghost use Rattle.rules.specs.Lists.{any};
+ghost use Rattle.rules.specs.Points.{neighbours};
+ghost use Rattle.viewing.specs.Seen.{meets, near, passed};
 
-use chains::group::index;
-use points::coord::{neighbours, two_to_1dim};
+use crate::view::View;
+use points::coord::{sides, two_to_1dim};
 use points::sizes::MAX_AREA;
-use points::stones::EMPTY;
+use points::stones::{EMPTY, colour_at};
 
 // What is asked at a point: its chain's stones or liberties, the points, stones or empty points beside it, or the chains beside it.
 #[derive(Clone, Copy)]
@@ -28,87 +28,69 @@ pub enum Question {
     At(u8, u8, Local),
 }
 
-// What a point is compared by: itself, or the least point of its chain.
-fn key(leads: &[u16; MAX_AREA], chained: bool, point: usize) -> usize
-    requires { (length leads.now ≡ max_area) × (point < max_area) }
-    ensures { result ≡ key_of leads.now chained point }
+// The least point of the chain at a point.
+fn lead_at(leads: &[u16; MAX_AREA], point: usize) -> usize
+    ensures { result ≡ get_or leads.now point 0 }
 {
-    if chained {
-        return index(leads[point]);
+    if MAX_AREA <= point {
+        return 0;
     }
-    point
+    usize::from(leads[point])
 }
 
-// Some point beside p has this key.
-fn met(
-    leads: &[u16; MAX_AREA],
-    height: u8,
-    width: u8,
-    chained: bool,
-    p: usize,
-    value: usize,
-) -> bool
-    requires { (length leads.now ≡ max_area) × (area height width ≤ max_area) }
-    ensures { result ≡ meets height width leads.now chained p value }
+// The point q lies beside p.
+#[tactic(auto, unfolding(rules::specs::Points::neighbours))]
+fn is_beside(height: u8, width: u8, p: usize, q: usize) -> bool
+    ensures { result ≡ any (λ r. eqb q r) (neighbours height width p) }
 {
-    let around = neighbours(height, width, p);
-    let points = around.points;
-    let count = around.count;
-    let mut i = 0;
-    while i < count {
-        if key(leads, chained, index(points[i])) == value {
-            return true;
-        }
-        i += 1;
-    }
-    false
+    sides(height, width, p)
+        .iter()
+        .filter_map(|side| *side)
+        .any(|r| q == r)
+}
+
+// A stone of the chain with this least point lies beside p.
+#[tactic(auto, unfolding(rules::specs::Points::neighbours, crate::specs::Seen::meets, crate::specs::Seen::key_of))]
+fn is_beside_chain(leads: &[u16; MAX_AREA], height: u8, width: u8, p: usize, lead: usize) -> bool
+    ensures { result ≡ meets height width leads.now true p lead }
+{
+    sides(height, width, p)
+        .iter()
+        .filter_map(|side| *side)
+        .any(|r| lead == lead_at(leads, r))
 }
 
 // The point q is in the list that is asked at the point p.
-fn near_shows(
-    colours: &[u8; MAX_AREA],
-    leads: &[u16; MAX_AREA],
-    height: u8,
-    width: u8,
-    p: usize,
-    local: Local,
-    q: usize,
-) -> bool
-    requires { Seen colours.now leads.now height width × (p < max_area) × (q < max_area) }
-    ensures { result ≡ near height width colours.now leads.now p local q }
+#[tactic(auto, unfolding(crate::specs::Seen::meets, crate::specs::Seen::key_of))]
+fn near_shows(view: &View, height: u8, width: u8, p: usize, local: Local, q: usize) -> bool
+    ensures { result ≡ near height width view.now.colours view.now.leads p local q }
 {
+    let colours = &view.colours;
+    let leads = &view.leads;
     match local {
-        Local::Chain => colours[p] != EMPTY && leads[p] == leads[q],
+        Local::Chain => colour_at(colours, p) != EMPTY && lead_at(leads, p) == lead_at(leads, q),
         Local::Liberties => {
-            colours[p] != EMPTY
-                && (colours[q] == EMPTY && met(leads, height, width, true, q, index(leads[p])))
+            colour_at(colours, p) != EMPTY
+                && (colour_at(colours, q) == EMPTY
+                    && is_beside_chain(leads, height, width, q, lead_at(leads, p)))
         }
-        Local::Points => met(leads, height, width, false, p, q),
-        Local::Stones => { colours[q] != EMPTY && met(leads, height, width, false, p, q) }
-        Local::Empties => { colours[q] == EMPTY && met(leads, height, width, false, p, q) }
-        Local::Chains => { index(leads[q]) == q && met(leads, height, width, true, p, q) }
+        Local::Points => is_beside(height, width, p, q),
+        Local::Stones => colour_at(colours, q) != EMPTY && is_beside(height, width, p, q),
+        Local::Empties => colour_at(colours, q) == EMPTY && is_beside(height, width, p, q),
+        Local::Chains => lead_at(leads, q) == q && is_beside_chain(leads, height, width, p, q),
     }
 }
 
 // The point q is in the list.
-pub fn shows(
-    colours: &[u8; MAX_AREA],
-    leads: &[u16; MAX_AREA],
-    height: u8,
-    width: u8,
-    question: Question,
-    q: usize,
-) -> bool
-    requires { Seen colours.now leads.now height width × OnBoard height width question × (q < max_area) }
-    ensures { result ≡ passed height width colours.now leads.now question q }
+pub fn shows(view: &View, height: u8, width: u8, question: Question, q: usize) -> bool
+    ensures { result ≡ passed height width view.now.colours view.now.leads question q }
 {
     match question {
-        Question::Stones => colours[q] != EMPTY,
-        Question::Coloured(colour) => colours[q] == colour,
+        Question::Stones => colour_at(&view.colours, q) != EMPTY,
+        Question::Coloured(colour) => colour_at(&view.colours, q) == colour,
         Question::At(row, column, local) => {
             near_shows(
-                colours,
-                leads,
+                view,
                 height,
                 width,
                 two_to_1dim(width, row, column),

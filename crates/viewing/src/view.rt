@@ -3,13 +3,13 @@ ghost use Rattle.std.specs.Prelude.{◌≡◌};
 ghost use Rattle.viewing.specs.View.{view_of};
 
 use board::goban::Board;
-use chains::group::index;
 use points::sizes::{MAX_AREA, SLOTS};
 use points::stones::EMPTY;
 
 // Where no chain is: the number of no point.
 pub const NO_POINT: u16 = MAX_AREA as u16;
 
+// These are two arrays, since the colours are lent alone to the picture.
 #[derive(Clone, Copy)]
 pub struct View {
     pub colours: [u8; MAX_AREA],
@@ -22,22 +22,15 @@ pub fn view_of(board: Board) -> View
 {
     let mut colours = [EMPTY; MAX_AREA];
     let mut leads = [NO_POINT; MAX_AREA];
-    let mut point = 0;
-    while point < MAX_AREA {
-        let owner = index(board.owners[point]);
-        let mut colour = EMPTY;
-        let mut lead = NO_POINT;
-        if owner < SLOTS {
-            let chain = board.chains[owner];
-            colour = chain.colour;
-            lead = chain.origin;
-        }
+    for point in 0..MAX_AREA {
+        let owner = usize::from(board.owners[point]);
+        let (colour, lead) = if owner < SLOTS {
+            (board.chains[owner].colour, board.chains[owner].origin)
+        } else {
+            (EMPTY, NO_POINT)
+        };
         colours[point] = colour;
         leads[point] = lead;
-        point += 1;
     }
-    View {
-        colours: colours,
-        leads: leads,
-    }
+    View { colours, leads }
 }

@@ -1,6 +1,5 @@
 -- What a reply says of points.
-use Rattle.std.specs.Prelude.{Bool, cond, ◌&&◌, List, [], ◌∷◌, ◌++◌, ℕ, zero, suc, eqb, ltb, length}
-use Rattle.std.proofs.Math.Option.{Option, none, some}
+use Rattle.std.specs.Prelude.{Bool, cond, ◌&&◌, List, [], ◌∷◌, ◌++◌, ℕ, zero, suc, eqb, ltb, length, Option, None, Some}
 use Rattle.rules.specs.Colours.{black, white, at}
 use Rattle.rules.specs.Points.{row, column}
 use Rattle.spelling.specs.Text.{ascii}
@@ -10,8 +9,8 @@ use Rattle.writing.specs.Figures.{decimal, spaced}
 
 -- row and column with a comma between; a dash where there is none
 abbrev pub placed : ℕ → Option ℕ → List ℕ
-placed w none = ascii "-"
-placed w (some p) = decimal (row w p) ++ ascii "," ++ decimal (column w p)
+placed w None = ascii "-"
+placed w (Some p) = decimal (row w p) ++ ascii "," ++ decimal (column w p)
 
 -- X is Black, O is White, a dot is empty
 unfoldable pub sign : ℕ → ℕ

@@ -1,55 +1,49 @@
 // Numbers as text.
-ghost use Rattle.std.specs.Prelude.{◌≡◌, ◌+◌, ◌*◌, ◌≤◌, ◌<◌, length};
+ghost use Rattle.std.specs.Prelude.{◌≡◌, ◌+◌, ◌*◌, ◌≤◌, ◌<◌, ◌++◌, length};
 ghost use Rattle.writing.specs.Figures.{decimal, spaced, hex_digit, hex};
-ghost use Rattle.writing.specs.Put.{Put};
 
-use crate::put::{put_byte, put_text};
-
-const SPACE: u8 = 32;
+use crate::text::{REPLY_BYTES, Text, put_text};
 
 // The digits of a number.
-pub fn put_number(out: &mut [u8], at: usize, number: u64) -> usize
-    requires { at + 20 ≤ length out.old }
-    ensures put { Put (decimal number) out.old at result out.new }
-    ensures upper_bound { result ≤ at + 20 }
+pub fn put_number(out: &mut Text, number: u64)
+    requires { length out.old.items + 20 ≤ REPLY_BYTES }
+    ensures put { out.new.items ≡ out.old.items ++ decimal number }
+    ensures upper_bound { length out.new.items ≤ length out.old.items + 20 }
 {
     let mut digits = [0u8; 20];
     let count = io::decimal(number, &mut digits);
-    put_text(out, at, &digits[..count])
+    put_text(out, &digits[..count]);
 }
 
 // A space and the digits of a number.
-pub fn put_spaced(out: &mut [u8], at: usize, number: u64) -> usize
-    requires { at + 21 ≤ length out.old }
-    ensures put { Put (spaced (decimal number)) out.old at result out.new }
-    ensures upper_bound { result ≤ at + 21 }
+#[tactic(auto, unfolding(crate::specs::Figures::spaced))]
+pub fn put_spaced(out: &mut Text, number: u64)
+    requires { length out.old.items + 21 ≤ REPLY_BYTES }
+    ensures put { out.new.items ≡ out.old.items ++ spaced (decimal number) }
+    ensures upper_bound { length out.new.items ≤ length out.old.items + 21 }
 {
-    let next = put_byte(out, at, SPACE);
-    put_number(out, next, number)
+    out.push(b' ');
+    put_number(out, number);
 }
 
+#[tactic(auto, unfolding(crate::specs::Figures::hex_digit))]
 fn hex_digit(digit: u8) -> u8
     requires { digit < 16 }
     ensures { result ≡ hex_digit digit }
 {
     if digit < 10 {
-        return 48 + digit;
+        return b'0' + digit;
     }
-    87 + digit
+    b'a' + (digit - 10)
 }
 
 // Two digits a byte.
-pub fn put_hex(out: &mut [u8], from: usize, bytes: &[u8]) -> usize
-    requires { from + 2 * length bytes.now ≤ length out.old }
-    ensures { Put (hex bytes.now) out.old from result out.new }
+pub fn put_hex(out: &mut Text, bytes: &[u8])
+    requires { length out.old.items + 2 * length bytes.now ≤ REPLY_BYTES }
+    ensures { out.new.items ≡ out.old.items ++ hex bytes.now }
 {
-    let mut at = from;
-    let mut i = 0;
-    while i < bytes.len() {
-        let byte = bytes[i];
-        at = put_byte(out, at, hex_digit(byte / 16));
-        at = put_byte(out, at, hex_digit(byte % 16));
-        i += 1;
+    for &byte in bytes {
+        out.push(hex_digit(byte / 16));
+        out.push(hex_digit(byte % 16));
     }
-    at
 }

@@ -1,5 +1,5 @@
-// Floor 5, text in a lent buffer: bytes, texts, and numbers in figures.
+// Floor 5, the text of a reply: bytes, texts and numbers, one behind the other.
 #![tactic(auto)]
 
 pub mod figures;
-pub mod put;
+pub mod text;

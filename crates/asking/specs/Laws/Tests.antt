@@ -24,10 +24,9 @@ use Rattle.game.specs.declared.state.Game.{Game}
 use Rattle.game.specs.View.{turn_of, ko_of, view_of}
 use Rattle.checking.specs.declared.spot.Spot.{Spot}
 use Rattle.checking.specs.declared.spot.Spot.TheVariants.{Off, Stone, Empty}
-use Rattle.checking.specs.declared.superko.Told.{Told}
-use Rattle.checking.specs.declared.superko.Told.TheVariants.{Answer, IfRecorded}
+use Rattle.rules.specs.Answers as answers
 use Rattle.checking.specs.Spot.{spot_of}
-use Rattle.checking.specs.Told.{at_ko, superko_told, settled, undecided}
+use Rattle.checking.specs.Told.{Told, Answer, IfRecorded, at_ko, superko_told, settled, undecided}
 use Rattle.checking.specs.Asking.{Asking, Repeating}
 use Rattle.asking.specs.declared.tests.Test.{Test}
 use Rattle.asking.specs.declared.tests.Test.TheVariants as tests
@@ -123,8 +122,8 @@ module _ (g : Game) where
           ap (λ (x : Told). settled x again) by-rules
           ∙ superko-settled (captures h w cols (turn_of g.turn) p) (ko h w cols (ko_of g.ko) p) g.records again
 
-      pub superko-known : (m : ℕ) → t ≡ Answer m → not (eqb m 0) ≡ superko_of (view_of g) bytes p
-      superko-known m e =
+      pub superko-known : (a : answers.Answer) → t ≡ Answer a → not (eqb (number a) 0) ≡ superko_of (view_of g) bytes p
+      superko-known a e =
           ap (λ (x : ℕ). not (eqb x 0)) (ap (λ (x : Told). settled x again) (sym e) ∙ settles) ∙ refused_says (superko_of (view_of g) bytes p)
 
       pub superko-again : t ≡ IfRecorded → again ≡ superko_of (view_of g) bytes p

@@ -20,7 +20,7 @@ use Rattle.flooding.specs.Flood.{found, shore, sees, Ready, Passed, Flooded}
 use Rattle.flooding.specs.Laws.Found.{shore-off}
 use Rattle.board.specs.Judge.{player, counted, liberties_good, chain_good, slot_good, Lent}
 
-module _ {h w s sum : ℕ} {next table notes queue : List ℕ} {starts : List Bool} (lent : Lent h w s next table starts notes queue sum) where
+module _ {h w s sum : ℕ} {next notes queue : List ℕ} {starts : List Bool} (lent : Lent h w s next starts notes queue sum) where
   pub lent-ready : (c : ℕ) → 0 < c → Ready h w s c notes queue 0 sum
   lent-ready c l = record {
     low = lent.low;

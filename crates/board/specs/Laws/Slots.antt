@@ -13,7 +13,7 @@ use Rattle.rules.specs.Points.{area, neighbours}
 use Rattle.rules.proofs.Laws.Lists.{and_left, and_right, any_some, mem_below, below-mem, length-below, pick-mem, mem-pick, count-some}
 use Rattle.rules.proofs.Laws.Counting.{below-distinct, pick-distinct, length-pick, count_none, count-not, leads-most}
 use Rattle.rules.proofs.Laws.Points.{neighbours-few, neighbours-from}
-use Rattle.chains.specs.declared.group.Slot.TheVariants.{Full}
+use Rattle.std.specs.Prelude.{None}
 use Rattle.chains.specs.Group.{used, first_free}
 use Rattle.sets.specs.Liberties.{liberty_bits}
 use Rattle.chains.specs.Laws.Group.{first_free-full}
@@ -73,7 +73,7 @@ module _ (b : Board) (is : TrueBoard b) where
         area-fits is.table.size,
       )
 
-  pub slot-free : first_free 0 b.chains ≢ Full
+  pub slot-free : first_free 0 b.chains ≢ None
   unfolding chain_in
   slot-free full =
       let all-used : count (λ s. not (in_use s)) (below slots) ≡ 0 =

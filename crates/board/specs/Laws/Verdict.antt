@@ -10,7 +10,7 @@ use native.Mathlib.Omega.{arith}
 use Rattle.std.proofs.Math.ListN.{length-replicate}
 use borrow.Author.Count.{below_none, below_more}
 use borrow.Author.Tests.{leb-true, ltb-true, ltb-false, lt-ltb, le-ltb, ne_eqb}
-use Rattle.rules.specs.Sizes.{max_side, max_area, slots, hash_entries}
+use Rattle.rules.specs.Sizes.{max_side, max_area, slots}
 use Rattle.rules.specs.Lists.{all, below, tabulate}
 use Rattle.rules.specs.Points.{area}
 use Rattle.rules.specs.Calls.{side_ok}
@@ -197,15 +197,14 @@ module _ (b : Board) (shape : Shaped b) (on : all (placed b.height b.width (owne
         ∙ sym (chain_same b.height b.width (owner_in notes) (owner b) b.next slot chain ours vacant)
 
     pub judging-lent :
-        {table : List ℕ} {starts : List Bool} → table ≡ tabulate entry 0 hash_entries → RowStarts b.height b.width starts
-        → area b.height b.width ≤ max_area → Lent b.height b.width slot b.next table starts notes queue sum
-    judging-lent numbers starting fits = record {
+        {starts : List Bool} → RowStarts b.height b.width starts
+        → area b.height b.width ≤ max_area → Lent b.height b.width slot b.next starts notes queue sum
+    judging-lent starting fits = record {
       low = low;
       fits = fits;
       links_long = shape.links;
       notes_long = is.notes_long;
       queue_long = is.queue_long;
-      numbers = numbers;
       starting = starting;
       hashed = is.hashed;
       standing = standing;

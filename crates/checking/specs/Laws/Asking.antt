@@ -34,10 +34,8 @@ use Rattle.game.specs.View.{turn_of, ko_of, view_of, TrueState, RoomIn}
 use Rattle.game.specs.Laws.View.{turn-player}
 use Rattle.checking.specs.declared.spot.Spot.{Spot}
 use Rattle.checking.specs.declared.spot.Spot.TheVariants.{Off, Stone, Empty}
-use Rattle.checking.specs.declared.superko.Told.{Told}
-use Rattle.checking.specs.declared.superko.Told.TheVariants.{Answer, IfRecorded}
 use Rattle.checking.specs.Spot.{spot_of}
-use Rattle.checking.specs.Told.{at_ko, told_of, told_near, told_spot, settled, known, undecided}
+use Rattle.checking.specs.Told.{Told, Answer, IfRecorded, at_ko, told_of, told_near, told_spot, settled, known, undecided}
 use Rattle.checking.specs.Asking.{Asking, Repeating, ToldAt}
 use Rattle.checking.specs.Laws.Spot.{spot-same, Free, off-outside, stone-taken, empty-free, free_on, free-empty}
 use Rattle.checking.specs.Laws.Near.{own-suicide, its-ko, own-captures, own-eye}
@@ -205,5 +203,5 @@ module _ (g : Game) (bytes : List ℕ) (r c : ℕ) (is : TrueState g) (room : Ro
       }
 
   pub told-laying : (t : Told) → ToldAt g g.flags r c t → known t ≡ 0 → Laying g.board point (turn_of g.turn) g.flags
-  told-laying (Answer n) told z = accepted-laying (zero-accepts (point_answer (view_of g) bytes g.flags r c) n (told.settles bytes) z)
+  told-laying (Answer n) told z = accepted-laying (zero-accepts (point_answer (view_of g) bytes g.flags r c) (number n) (told.settles bytes) z)
   told-laying IfRecorded told z = repeating-laying g (length bytes) point (told.repeating refl (length bytes) is room) (turn_of g.turn) refl

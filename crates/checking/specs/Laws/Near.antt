@@ -1,6 +1,5 @@
 -- Laws of what stands near a point of a true state: the tests on it are the rules' tests for the player to move.
-use Rattle.std.specs.Prelude.{Bool, true, false, cond, not, ◌&&◌, List, ◌≡◌, refl, ℕ, eqb}
-use Rattle.std.proofs.Math.Option.{none, some}
+use Rattle.std.specs.Prelude.{Bool, true, false, cond, not, ◌&&◌, List, ◌≡◌, refl, ℕ, eqb, None, Some}
 use Rattle.std.proofs.Common.{sym, ◌∙◌, subst}
 use Rattle.std.proofs.Math.Path.{ap}
 use Rattle.rules.specs.Lists.{any}
@@ -29,7 +28,7 @@ at_ko-point : (h w : ℕ) (cols : List ℕ) (x p : ℕ) → at_ko x p ≡ is_ko_
 unfolding at_ko ko_of is_ko_point
 at_ko-point h w cols x p = go (eqb x no_point)
   where
-    go : (t : Bool) → not t && eqb p x ≡ is_ko_point h w cols (cond t none (some x)) p
+    go : (t : Bool) → not t && eqb p x ≡ is_ko_point h w cols (cond t None (Some x)) p
     go true = refl
     go false = refl
 

@@ -7,10 +7,7 @@ use Rattle.rules.specs.Flags.{KO, SUICIDE, FILLEYE, SUPERKO, forbids}
 use Rattle.rules.specs.Answers as answers
 use Rattle.rules.specs.Answers.{number, accepts, refuse, ◌then◌}
 use Rattle.rules.proofs.Laws.Lists.{not-both}
-use Rattle.rules.proofs.Laws.Answers.{accepts-zero, refuses-other}
-use Rattle.checking.specs.declared.superko.Told.{Told}
-use Rattle.checking.specs.declared.superko.Told.TheVariants.{Answer, IfRecorded}
-use Rattle.checking.specs.Told.{superko_told, first_refusal, told_of, settled, known, undecided}
+use Rattle.checking.specs.Told.{Told, Answer, IfRecorded, superko_told, first_refusal, told_of, settled, known, undecided}
 
 -- ---- What it settles to
 
@@ -21,7 +18,7 @@ unfolding superko_told refuse
 superko-settled captures ko records again = go (ltb 2 records) captures ko
   where
     go : (many captures ko : Bool) →
-        settled (cond (many && captures) (cond ko (Answer (number answers.SuperKo)) IfRecorded) (Answer (number answers.Accepted))) again
+        settled (cond (many && captures) (cond ko (Answer answers.SuperKo) IfRecorded) (Answer answers.Accepted)) again
         ≡ number (cond (many && captures && (ko || again)) answers.SuperKo answers.Accepted)
     go false captures ko = refl
     go true false ko = refl
@@ -42,7 +39,7 @@ told-settled flags suicide ko eye captures records again =
     (superko_told captures ko records) (ltb 2 records && captures && (ko || again)) (superko-settled captures ko records again)
   where
     go : (a b c d : Bool) (last : Told) (test : Bool) → settled last again ≡ number (refuse answers.SuperKo test) →
-        settled (cond (accepts (first_refusal a b c)) (cond d last (Answer 0)) (Answer (number (first_refusal a b c)))) again
+        settled (cond (accepts (first_refusal a b c)) (cond d last (Answer answers.Accepted)) (Answer (first_refusal a b c))) again
         ≡ number (refuse answers.Suicide a then refuse answers.Ko b then refuse answers.FillEye c then refuse answers.SuperKo (d && test))
     go true b c d last test e = refl
     go false true c d last test e = refl
@@ -52,29 +49,27 @@ told-settled flags suicide ko eye captures records again =
 
 -- ---- As it is told
 
-module _ (flags : ℕ) (suicide ko eye captures : Bool) (records first : ℕ)
-    (its : first ≡ number (first_refusal (forbids flags SUICIDE && suicide) (forbids flags KO && ko) (forbids flags FILLEYE && eye))) where
-  abbrev answer : answers.Answer
-  answer = first_refusal (forbids flags SUICIDE && suicide) (forbids flags KO && ko) (forbids flags FILLEYE && eye)
-
+module _ (flags : ℕ) (suicide ko eye captures : Bool) (records : ℕ) (first : answers.Answer)
+    (its : first ≡ first_refusal (forbids flags SUICIDE && suicide) (forbids flags KO && ko) (forbids flags FILLEYE && eye)) where
   abbrev last : Told
-  last = cond (forbids flags SUPERKO) (superko_told captures ko records) (Answer (number answers.Accepted))
+  last = cond (forbids flags SUPERKO) (superko_told captures ko records) (Answer answers.Accepted)
 
-  pub told-refused : first ≢ 0 → Answer first ≡ told_of flags suicide ko eye captures records
+  whole : cond (accepts first) last (Answer first) ≡ told_of flags suicide ko eye captures records
   unfolding told_of
-  told-refused n = ap Answer its ∙ sym (ap (λ (t : Bool). cond t last (Answer (number answer))) (refuses-other answer (λ z. n (its ∙ z))))
+  whole = ap (λ (a : answers.Answer). cond (accepts a) last (Answer a)) its
 
-  module _ (passed : first ≡ 0) where
-    past : told_of flags suicide ko eye captures records ≡ last
-    unfolding told_of
-    past = ap (λ (t : Bool). cond t last (Answer (number answer))) (accepts-zero answer (sym its ∙ passed))
+  pub told-refused : accepts first ≡ false → Answer first ≡ told_of flags suicide ko eye captures records
+  told-refused e = sym (ap (λ (t : Bool). cond t last (Answer first)) e) ∙ whole
 
-    pub told_free : forbids flags SUPERKO ≡ false → Answer 0 ≡ told_of flags suicide ko eye captures records
-    unfolding number
-    told_free e = sym (past ∙ ap (λ (t : Bool). cond t (superko_told captures ko records) (Answer 0)) e)
+  module _ (passed : accepts first ≡ true) where
+    past : last ≡ told_of flags suicide ko eye captures records
+    past = sym (ap (λ (t : Bool). cond t last (Answer first)) passed) ∙ whole
+
+    pub told_free : forbids flags SUPERKO ≡ false → Answer answers.Accepted ≡ told_of flags suicide ko eye captures records
+    told_free e = sym (ap (λ (t : Bool). cond t (superko_told captures ko records) (Answer answers.Accepted)) e) ∙ past
 
     pub told-superko : forbids flags SUPERKO ≡ true → superko_told captures ko records ≡ told_of flags suicide ko eye captures records
-    told-superko e = sym (past ∙ ap (λ (t : Bool). cond t (superko_told captures ko records) (Answer (number answers.Accepted))) e)
+    told-superko e = sym (ap (λ (t : Bool). cond t (superko_told captures ko records) (Answer answers.Accepted)) e) ∙ past
 
 -- ---- Where the records decide, the stone captures
 
@@ -83,7 +78,7 @@ unfolding superko_told
 superko-silent ko records = go (ltb 2 records)
   where
     go : (many : Bool) →
-        undecided (cond (many && false) (cond ko (Answer (number answers.SuperKo)) IfRecorded) (Answer (number answers.Accepted))) ≡ false
+        undecided (cond (many && false) (cond ko (Answer answers.SuperKo) IfRecorded) (Answer answers.Accepted)) ≡ false
     go true = refl
     go false = refl
 
@@ -94,10 +89,10 @@ told-silent flags suicide ko eye records =
     (superko_told false ko records) (superko-silent ko records)
   where
     go : (first : answers.Answer) (d : Bool) (last : Told) → undecided last ≡ false →
-        undecided (cond (accepts first) (cond d last (Answer (number answers.Accepted))) (Answer (number first))) ≡ false
+        undecided (cond (accepts first) (cond d last (Answer answers.Accepted)) (Answer first)) ≡ false
     go first d last e = pick (accepts first) d
       where
-        pick : (a d : Bool) → undecided (cond a (cond d last (Answer (number answers.Accepted))) (Answer (number first))) ≡ false
+        pick : (a d : Bool) → undecided (cond a (cond d last (Answer answers.Accepted)) (Answer first)) ≡ false
         pick true true = e
         pick true false = refl
         pick false d = refl

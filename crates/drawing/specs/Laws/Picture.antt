@@ -1,5 +1,5 @@
 -- Laws of Picture: its length, one sign or one newline more, that colours which agree have one picture, and when it is refused.
-use Rattle.std.specs.Prelude.{◌≡◌, eqb, length, set}
+use Rattle.std.specs.Prelude.{◌≡◌, eqb, length, get_or, take, drop, set}
 use Rattle.std.proofs.Math.Path.{refl, ap}
 use Rattle.std.proofs.Common.{sym, ap₂, ◌∙◌, subst, suc-mul, zero-mul, add-one, length-append, lt-ltb, le-ltb}
 use Rattle.std.proofs.Math.Bool.{cond}
@@ -13,7 +13,10 @@ use Rattle.rules.specs.Points.{index}
 use Rattle.rules.specs.Answers.{BadLength, number}
 use Rattle.rules.specs.Picture.{grid_sign, sign, utf8, row_from, rows_from, picture, picture_bytes, picture_answer}
 use Rattle.rules.proofs.Laws.Answers.{refuses, passes}
-use Rattle.viewing.specs.Front.{Front}
+use Rattle.rules.specs.Lists.{tabulate}
+use Rattle.rules.proofs.Laws.Lists.{length-tabulate}
+use Rattle.rules.proofs.Laws.Places.{tabulate-shift}
+use Rattle.viewing.specs.Front.{over, Front}
 use Rattle.drawing.specs.Picture.{signed, rest, Drawing}
 use Rattle.viewing.specs.Laws.Front.{front-none, front-more}
 
@@ -169,3 +172,22 @@ picture-short h w buffer l = ap number (refuses BadLength (lt-ltb (length buffer
 pub picture-fits : (h w : ℕ) (buffer : List ℕ) → picture_bytes h w ≤ length buffer → number (picture_answer h w buffer) ≡ 0
 unfolding picture_answer number
 picture-fits h w buffer l = ap number (passes BadLength (le-ltb (length buffer) (picture_bytes h w) l))
+
+-- ---- Colours copied
+
+-- the first places of a list are the table of them
+take-tabulate : (cs : List ℕ) (n : ℕ) → n ≤ length cs → take n cs ≡ tabulate (λ i. get_or cs i 0) 0 n
+take-tabulate cs zero l = refl
+take-tabulate [] (suc n) l = absurd (omega arith)
+take-tabulate (x ∷ cs) (suc n) l =
+    ap (λ (xs : List ℕ). x ∷ xs) (take-tabulate cs n (omega arith) ∙ sym (tabulate-shift (λ i. get_or (x ∷ cs) i 0) 0 n))
+
+pub front_copied :
+    (cs before part : List ℕ) (n : ℕ) → n ≤ length cs → part ≡ take n cs → Front (tabulate (λ i. get_or cs i 0) 0 n) before n (part ++ drop n before)
+unfolding over
+front_copied cs before part n l e =
+    let long : length (tabulate (λ i. get_or cs i 0) 0 n) ≡ n = length-tabulate (λ i. get_or cs i 0) 0 n in
+    record {
+      counted = sym long;
+      buffer = ap₂ (λ (xs : List ℕ) (k : ℕ). xs ++ drop k before) (e ∙ take-tabulate cs n l) (sym long);
+    }

@@ -1,5 +1,7 @@
 -- Laws of counting: asking some or all elements is counting, and one element more.
 use Rattle.std.specs.Prelude.{◌≡◌, refl, Bool, true, false, cond, ◌&&◌, ◌||◌, List, [], ◌∷◌, ℕ, suc, ◌+◌, ◌<◌, eqb, ltb, length, get_or, take}
+use Rattle.std.specs.Prelude.{count_by}
+use Rattle.std.proofs.lemmas.List.Sums.{sum_by-cons}
 use Rattle.std.proofs.Common.{sym, ap, ◌∙◌, zero-add, add-one, arith, take-suc, eqb-true, eq-eqb, ne_eqb, lt-ltb}
 use Rattle.rules.specs.Lists.{any, all, count}
 use Rattle.rules.proofs.Laws.Lists.{same_answer}
@@ -32,3 +34,8 @@ module _ {A : Type 0} where
       (f : A → Bool) (xs : List A) (d : A) (i : ℕ) → i < length xs → count f (take (i + 1) xs) ≡ count f (take i xs) + cond (f (get_or xs i d)) 1 0
   count-more f xs d i h =
       rw (add-one, take-suc xs i d) (count-append f (take i xs) (get_or xs i d ∷ []) ∙ omega arith)
+
+-- the library counts as the definition does
+pub count-by : {A : Type 0} (f : A → Bool) (xs : List A) → count_by f xs ≡ count f xs
+count-by f [] = refl
+count-by f (x ∷ xs) = sum_by-cons (λ y. cond (f y) 1 0) x xs ∙ ap (λ (n : ℕ). cond (f x) 1 0 + n) (count-by f xs)

@@ -1,9 +1,8 @@
 -- Laws of a board's edges: the points that begin a row are every w-th, and where they are known a step to each side needs no division.
-use Rattle.std.specs.Prelude.{◌≡◌, refl, Bool, true, false, List, ◌≢◌, ℕ, zero, suc, ◌+◌, ◌-◌, ◌*◌, ◌≤◌, ◌<◌, eqb, length, set, replicate}
+use Rattle.std.specs.Prelude.{◌≡◌, refl, Bool, true, false, List, ◌≢◌, ℕ, zero, suc, ◌+◌, ◌-◌, ◌*◌, ◌≤◌, ◌<◌, eqb, length, set, replicate, Option, None, Some}
 use Rattle.std.proofs.Common.{sym, ◌∙◌, suc-mul, not-suc-le-zero, add-one, length-set, get_or-set_same, get_or-set_other}
 use Rattle.std.proofs.Math.Path.{ap}
 use Rattle.std.proofs.Math.Logic.{⊎_elim}
-use Rattle.std.proofs.Math.Option.{Option, none, some}
 use Rattle.std.proofs.Math.Nat.{zero-mul, mul-le-mul_right}
 use native.Mathlib.Omega.{arith}
 use Rattle.std.proofs.lemmas.List.{length-replicate}
@@ -78,8 +77,8 @@ pub towards-within : (h w p : ℕ) (dr dc : Shift) → Within (area h w) (toward
 towards-within h w p dr dc = go (towards h w p dr dc) refl
   where
     go : (o : Option ℕ) → towards h w p dr dc ≡ o → Within (area h w) o
-    go none e = tt
-    go (some q) e = (towards-step h w p q dr dc e).to
+    go None e = tt
+    go (Some q) e = (towards-step h w p q dr dc e).to
 
 more_rows : (r w : ℕ) → (r + 1) * w ≡ r * w + w
 more_rows r w = rw add-one (suc-mul r w)
@@ -100,16 +99,16 @@ module _ (h w p : ℕ) (on : p < area h w) where
   unfolding area
   low = on
 
-  pub below-some : p + w < area h w → towards h w p forth stay ≡ some (p + w)
+  pub below-some : p + w < area h w → towards h w p forth stay ≡ Some (p + w)
   unfolding towards shifted index area
   below-some l =
       let more = more_rows (row w p) w in
       let r : row w p + 1 < h =
       ⊎_elim (λ a. a) (λ b. let c = mul-le-mul_right w b in absurd (omega (arith, place))) (below_or_not (row w p + 1) h) in
       let e : (row w p + 1) * w + column w p ≡ p + w = omega (arith, place) in
-      rw (lt-ltb p (h * w) low, lt-ltb (row w p + 1) h r) (ap {B = Option ℕ} some e)
+      rw (lt-ltb p (h * w) low, lt-ltb (row w p + 1) h r) (ap {B = Option ℕ} Some e)
 
-  pub below_none : area h w ≤ p + w → towards h w p forth stay ≡ none
+  pub below_none : area h w ≤ p + w → towards h w p forth stay ≡ None
   unfolding towards shifted area
   below_none l =
       let more = more_rows (row w p) w in
@@ -119,7 +118,7 @@ module _ (h w p : ℕ) (on : p < area h w) where
       (below_or_not (row w p + 1) h) in
       rw (lt-ltb p (h * w) low, le-ltb (row w p + 1) h r)
 
-  pub above-some : w ≤ p → towards h w p back stay ≡ some (p - w)
+  pub above-some : w ≤ p → towards h w p back stay ≡ Some (p - w)
   unfolding towards shifted index area
   above-some l =
       let r : 0 < row w p =
@@ -127,9 +126,9 @@ module _ (h w p : ℕ) (on : p < area h w) where
       (equal_or_not (row w p) 0) in
       let less = less-rows (row w p) w r in
       let e : (row w p - 1) * w + column w p ≡ p - w = omega (arith, place) in
-      rw (lt-ltb p (h * w) low, lt-ltb 0 (row w p) r) (ap {B = Option ℕ} some e)
+      rw (lt-ltb p (h * w) low, lt-ltb 0 (row w p) r) (ap {B = Option ℕ} Some e)
 
-  pub above-none : p < w → towards h w p back stay ≡ none
+  pub above-none : p < w → towards h w p back stay ≡ None
   unfolding towards shifted area
   above-none l =
       let r : row w p ≤ 0 =
@@ -150,29 +149,29 @@ module _ (h w p : ℕ) (on : p < area h w) where
       let e : (row w p + 1) * w + 0 ≡ p + 1 = omega (arith, place, narrow) in
       ap (column w) (sym e) ∙ column-index w (row w p + 1) {c = 0} (omega (arith, narrow))
 
-  pub right-some : column w (p + 1) ≢ 0 → towards h w p stay forth ≡ some (p + 1)
+  pub right-some : column w (p + 1) ≢ 0 → towards h w p stay forth ≡ Some (p + 1)
   unfolding towards shifted index area
   right-some n =
       let c : column w p + 1 < w = ⊎_elim (λ a. a) (λ b. absurd (n (next_row b))) (below_or_not (column w p + 1) w) in
       let e : row w p * w + (column w p + 1) ≡ p + 1 = omega (arith, place) in
-      rw (lt-ltb p (h * w) low, lt-ltb (column w p + 1) w c) (ap {B = Option ℕ} some e)
+      rw (lt-ltb p (h * w) low, lt-ltb (column w p + 1) w c) (ap {B = Option ℕ} Some e)
 
-  pub right-none : column w (p + 1) ≡ 0 → towards h w p stay forth ≡ none
+  pub right-none : column w (p + 1) ≡ 0 → towards h w p stay forth ≡ None
   unfolding towards shifted area
   right-none z =
       let c : w ≤ column w p + 1 = ⊎_elim (λ a. let e = next-column a in absurd (omega arith)) (λ b. b) (below_or_not (column w p + 1) w) in
       rw (lt-ltb p (h * w) low, le-ltb (column w p + 1) w c)
 
-  pub left-some : column w p ≢ 0 → towards h w p stay back ≡ some (p - 1)
+  pub left-some : column w p ≢ 0 → towards h w p stay back ≡ Some (p - 1)
   unfolding towards shifted index area
   left-some n =
       let c : 0 < column w p = omega arith in
       let e : row w p * w + (column w p - 1) ≡ p - 1 = omega (arith, place) in
-      rw (lt-ltb p (h * w) low, lt-ltb 0 (column w p) c) (ap {B = Option ℕ} some e)
+      rw (lt-ltb p (h * w) low, lt-ltb 0 (column w p) c) (ap {B = Option ℕ} Some e)
 
   pub left-positive : column w p ≢ 0 → 0 < p
   left-positive n = omega (arith, place)
 
-  pub left-none : column w p ≡ 0 → towards h w p stay back ≡ none
+  pub left-none : column w p ≡ 0 → towards h w p stay back ≡ None
   unfolding towards shifted area
   left-none z = rw (lt-ltb p (h * w) low, le-ltb 0 (column w p) (omega arith))

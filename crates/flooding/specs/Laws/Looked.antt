@@ -1,10 +1,9 @@
 -- Laws of a look at some points: at none, at one that the slot does not want or does, and looks that follow each other.
-use Rattle.std.specs.Prelude.{◌≡◌, refl, Bool, false, ◌&&◌, ◌||◌, List, [], ◌∷◌, ◌++◌, ◌≢◌, ℕ, ◌+◌, ◌-◌, ◌≤◌, ◌<◌, length, get_or, set}
+use Rattle.std.specs.Prelude.{◌≡◌, refl, Bool, false, ◌&&◌, ◌||◌, List, [], ◌∷◌, ◌++◌, ◌≢◌, ℕ, ◌+◌, ◌-◌, ◌≤◌, ◌<◌, length, get_or, set, Option, None, Some}
 use Rattle.std.proofs.Math.Path.{sym, ap}
 use Rattle.std.proofs.Common.{◌∙◌, subst, le_trans, lt_of_lt_of_le, arith, length-set, ext_get_or}
 use Rattle.std.proofs.Math.Bool.{true, cond, and-false, or-false, or-true}
 use Rattle.std.proofs.Math.Logic.{⊎_elim}
-use Rattle.std.proofs.Math.Option.{Option, none, some}
 use Rattle.std.proofs.Math.Nat.{le_refl}
 use Rattle.std.specs.Int.Bits.{bit_xor}
 use Rattle.std.proofs.Math.Dec.{eqb}
@@ -289,14 +288,14 @@ looked-pushed seen long is {q} on e push = rw (push.noted, push.queued, push.cou
 -- ---- At the four sides of a point
 
 four : (a b c d : Option ℕ) → present (a ∷ []) ++ present (b ∷ []) ++ present (c ∷ []) ++ present (d ∷ []) ≡ present (a ∷ b ∷ c ∷ d ∷ [])
-four none none none d = refl
-four none none (some z) d = refl
-four none (some y) none d = refl
-four none (some y) (some z) d = refl
-four (some x) none none d = refl
-four (some x) none (some z) d = refl
-four (some x) (some y) none d = refl
-four (some x) (some y) (some z) d = refl
+four None None None d = refl
+four None None (Some z) d = refl
+four None (Some y) None d = refl
+four None (Some y) (Some z) d = refl
+four (Some x) None None d = refl
+four (Some x) None (Some z) d = refl
+four (Some x) (Some y) None d = refl
+four (Some x) (Some y) (Some z) d = refl
 
 pub looked-around :
     (h w p : ℕ) {s c tail tail₁ tail₂ tail₃ tail₄ sum₁ sum₂ sum₃ sum₄ : ℕ} {a b d e : Option ℕ}

@@ -1,14 +1,18 @@
 -- Laws of After: on every board the numbers that a pass, a resignation and a resume leave show what the rules say, and so the call keeps its promise.
-use Rattle.std.specs.Prelude.{◌≡◌, true, false, [], ℕ, ◌+◌, ◌≤◌, ◌<◌, eqb}
+use Rattle.std.specs.Prelude.{◌≡◌, true, false, [], ℕ, ◌+◌, ◌≤◌, ◌<◌, eqb, None}
 use Rattle.std.proofs.Math.Path.{refl, subst}
 use Rattle.std.proofs.Common.{sym, ap, ◌∙◌, ⊎_elim, arith, eq-eqb, ne_eqb}
-use Rattle.std.proofs.Math.Option.{none}
+use Rattle.std.specs.declared.result.Result as std
+use Rattle.std.specs.declared.result.Result.TheVariants.{Ok, Err}
+use Rattle.std.specs.Result.{MatchResult}
 use Rattle.rules.specs.Colours.{white, other}
-use Rattle.rules.specs.Answers.{Accepted, GamePaused, number, accepts, refuse}
+use Rattle.rules.specs.Answers.{Accepted, Damaged, GamePaused, number, accepts, refuse}
 use Rattle.rules.specs.Game as rules
 use Rattle.rules.specs.Calls.{Result, result, paused, pause_answer, pass_game, pass, resign_game, resign, resume_game, resume}
 use Rattle.rules.proofs.Laws.Lists.{decided}
 use Rattle.rules.proofs.Laws.Keep.{pass-true, resign-true, resume-true}
+use Rattle.points.specs.declared.answers.Refusal.{Refusal}
+use Rattle.points.specs.Reason.{reason}
 use Rattle.board.specs.Board.{colours_of}
 use Rattle.board.specs.declared.goban.Board.{Board}
 use Rattle.game.specs.declared.state.Game.{Game}
@@ -17,8 +21,9 @@ use Rattle.game.specs.Clock.{clock_of, game_of}
 use Rattle.game.specs.View.{turn_of, outcome_of, ko_of, begun_of, view_of, TrueState}
 use Rattle.game.specs.Promise.{CalledAlone, Ticks}
 use Rattle.game.specs.After.{passed, resigned, resumed}
-use Rattle.game.specs.Laws.View.{turn-player, outcome-turn}
-use Rattle.game.specs.Laws.Promise.{alone-refused, alone-accepted}
+use Rattle.game.specs.Ticked.{number_of, after, Vouched}
+use Rattle.game.specs.Laws.View.{turn-player, outcome-turn, game-whole}
+use Rattle.game.specs.Laws.Promise.{alone-damaged, alone-refused, alone-accepted}
 
 -- the opponent of a player is a player
 turn-other : (x : ℕ) → turn_of (other (turn_of x)) ≡ other (turn_of x)
@@ -42,7 +47,7 @@ module _ (c : Clock) where
           passes = c.passes + 1;
           white_held = c.held.white;
           black_held = c.held.black;
-          ko_point = none;
+          ko_point = None;
           outcome = outcome_of c.outcome;
           handicap = c.handicap;
           accepted = c.accepted;
@@ -142,3 +147,19 @@ unfolding clock_of game_of
 alone-ticked g call is {c} {c'} {answer} its ticks made =
     subst (CalledAlone (call g) g answer) (sym made)
     ((subst (λ (k : Clock). Ticks call k answer c') its ticks).ticked g.board is)
+
+-- such a call on any state: of a true one the numbers were told, and the game has what was made of them
+pub alone-called :
+    (g : Game) (call : Game → Result) (told ticked : std.Result Clock Refusal) → Vouched g told
+    → MatchResult told (λ c. Ticks call c (number_of ticked) (after c ticked)) (λ r. ticked ≡ Err r)
+    → {answer : ℕ} {g' : Game} → answer ≡ number_of ticked
+    → ((c : Clock) → ticked ≡ Ok c → g' ≡ game_of g.board c) → ((r : Refusal) → ticked ≡ Err r → g' ≡ g)
+    → CalledAlone (call g) g answer g'
+alone-called g call (Err r) ticked (bad, why) same {answer} {g'} e given kept =
+    let three : answer ≡ number Damaged = e ∙ ap number_of same ∙ ap (λ (s : Refusal). number (reason s)) why in
+    subst (λ (x : Game). CalledAlone (call g) g answer x) (sym (kept r same))
+    (subst (λ (n : ℕ). CalledAlone (call g) g n g) (sym three) (alone-damaged g (call g) bad))
+alone-called g call (Ok c) (Ok c') (is, its) ticks {answer} {g'} e given kept =
+    alone-ticked g call is its (subst (λ (n : ℕ). Ticks call c n c') (sym e) ticks) (given c' refl)
+alone-called g call (Ok c) (Err r) (is, its) ticks {answer} {g'} e given kept =
+    alone-ticked g call is its (subst (λ (n : ℕ). Ticks call c n c) (sym e) ticks) (kept r refl ∙ sym (game-whole g g.board c refl its))

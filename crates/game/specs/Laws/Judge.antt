@@ -1,28 +1,25 @@
 -- Laws of Judge: a state is true exactly if its board is, its numbers are in range, its sums hold, and without the mark it is untouched.
-use Rattle.std.specs.Prelude.{◌≡◌, refl, Bool, true, false, cond, ℕ, ◌+◌, ◌≤◌, ◌<◌, eqb}
+use Rattle.std.specs.Prelude.{◌≡◌, refl, Bool, true, false, ℕ, ◌+◌, ◌≤◌, ◌<◌, eqb, Some}
 use Rattle.std.proofs.Common.{sym, ◌∙◌, true≢false, inl, inr, ⊎_elim, arith, eqb-true, eq-eqb}
 use Rattle.std.proofs.Math.Path.{ap, subst}
 use Rattle.std.proofs.Math.Bool.{not}
-use Rattle.std.proofs.Math.Option.{some, none-ne-some, some-injective}
+use Rattle.std.proofs.lemmas.Option.{none-some, same_Some}
 use Rattle.std.proofs.lemmas.Bool.{not-false}
 use Rattle.rules.specs.Sizes.{max_stones}
 use Rattle.rules.specs.Points.{area}
 use Rattle.rules.specs.Colours.{black, white}
-use Rattle.rules.specs.Game.{Player, stones}
+use Rattle.rules.specs.Game.{Player}
 use Rattle.rules.proofs.Laws.Lists.{decided}
-use Rattle.board.specs.declared.goban.Board.{Board}
-use Rattle.board.specs.declared.judge.Verdict.{Verdict}
+use Rattle.board.specs.declared.judge.Stones.{Stones}
 use Rattle.board.specs.Board.{colours_of}
 use Rattle.board.specs.True.{TrueBoard}
 use Rattle.board.specs.Laws.Chains.{true-colours}
 use Rattle.game.specs.declared.state.Game.{Game}
-use Rattle.game.specs.declared.state.Tally.{Tally}
-use Rattle.game.specs.declared.clock.Clock.{Clock}
-use Rattle.game.specs.Clock.{clock_of, game_of}
-use Rattle.game.specs.View.{outcome_of, begun_of, view_of, TrueState, RoomIn}
-use Rattle.game.specs.Judge.{Decides, Judged, Counted, InRange, Summed, Untouched}
+use Rattle.game.specs.View.{outcome_of, begun_of, view_of, TrueState}
+use Rattle.board.specs.Verdict.{Counted}
+use Rattle.game.specs.Judge.{Decides, InRange, Summed, Untouched}
 use Rattle.board.specs.Laws.NewBoard.{no-stones}
-use Rattle.game.specs.Laws.View.{turn-player, game-whole}
+use Rattle.game.specs.Laws.View.{turn-player}
 
 -- ---- An answer
 
@@ -33,13 +30,13 @@ pub decides-no : {P : Type 0} → ¬ P → Decides false P
 decides-no not = record { sound = λ e. absurd (true≢false (sym e)); complete = λ p. absurd (not p) }
 
 -- the player whom an outcome names
-outcome-player : (x c : ℕ) → outcome_of x ≡ some c → Player c
+outcome-player : (x c : ℕ) → outcome_of x ≡ Some c → Player c
 unfolding outcome_of Player
 outcome-player x c e =
-    ⊎_elim (λ (b : eqb x black ≡ true). inl (sym (some-injective black c (rw b at e))))
+    ⊎_elim (λ (b : eqb x black ≡ true). inl (sym (same_Some black c (rw b at e))))
     (λ (n : eqb x black ≡ false).
-    ⊎_elim (λ (w : eqb x white ≡ true). inr (sym (some-injective white c (rw (n, w) at e))))
-    (λ (m : eqb x white ≡ false). absurd (none-ne-some c (rw (n, m) at e)))
+    ⊎_elim (λ (w : eqb x white ≡ true). inr (sym (same_Some white c (rw (n, w) at e))))
+    (λ (m : eqb x white ≡ false). absurd (none-some c (rw (n, m) at e)))
     (decided (eqb x white)))
     (decided (eqb x black))
 
@@ -51,7 +48,7 @@ module _ (g : Game) where
   abbrev Ranged : ℕ → Type 0
   Ranged end = InRange end g.flags g.passes g.ko g.handicap
 
-  abbrev Sums : Tally → Type 0
+  abbrev Sums : Stones → Type 0
   Sums on = Summed on g.held g.put g.handicap g.accepted
 
   abbrev Start : Type 0
@@ -70,7 +67,7 @@ module _ (g : Game) where
           ko_on = λ k stands. subst (λ (n : ℕ). k < n) (sym e) (is.game.ko_on k stands);
         }
 
-    pub true-sums : (on : Tally) → Counted g.board on → Sums on
+    pub true-sums : (on : Stones) → Counted g.board on → Sums on
     unfolding view_of
     true-sums on counted =
         record {
@@ -89,7 +86,7 @@ module _ (g : Game) where
 
   pub made-true :
       TrueBoard g.board → g.accepted ≤ max_stones → (end : ℕ) → end ≡ area g.board.height g.board.width → Ranged end →
-      (on : Tally) → Counted g.board on → Sums on → (g.begun ≡ 0 → Start) → TrueState g
+      (on : Stones) → Counted g.board on → Sums on → (g.begun ≡ 0 → Start) → TrueState g
   unfolding view_of begun_of
   made-true board limited end e ranged on counted sums start =
       let colours = true-colours g.board board in
@@ -123,26 +120,3 @@ module _ (g : Game) where
                   };
             };
       }
-
--- ---- The board's judge and the numbers
-
-module _ {g : Game} {k : Clock} {found : Verdict} (clock : k ≡ clock_of g)
-    (told :
-    (found.good ≡ true → TrueBoard g.board) × ((TrueBoard g.board → found.good ≡ true) ×
-    ((found.black ≡ cond found.good (stones (colours_of g.board) black) 0) × (found.white ≡ cond found.good (stones (colours_of g.board) white) 0))))
-    {r : Bool} where
-  -- what is decided for every board of which the judge finds this is decided for the game's
-  decides-game : (P : Game → Type 0)
-      → ((b : Board) → b.height ≡ g.board.height → b.width ≡ g.board.width → Judged b found → Decides r (P (game_of b k))) → Decides r (P g)
-  decides-game P decides =
-      subst (λ (x : Game). Decides r (P x)) (game-whole g g.board k refl clock)
-      (decides g.board refl refl (record { sound = told.0; complete = told.1.0; blacks = told.1.1.0; whites = told.1.1.1 }))
-
-  pub decides-state : ((b : Board) → b.height ≡ g.board.height → b.width ≡ g.board.width → Judged b found → Decides r (TrueState (game_of b k))) → Decides r (TrueState g)
-  decides-state = decides-game TrueState
-
-  -- with a history of n bytes
-  pub decides-with : (n : ℕ)
-      → ((b : Board) → b.height ≡ g.board.height → b.width ≡ g.board.width → Judged b found → Decides r (TrueState (game_of b k) × RoomIn (game_of b k) n))
-      → Decides r (TrueState g × RoomIn g n)
-  decides-with n = decides-game (λ x. TrueState x × RoomIn x n)

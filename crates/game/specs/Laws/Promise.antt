@@ -1,15 +1,16 @@
 -- Laws of Promise: a new game is the fresh one, of the size asked for or of 1 × 1, by the order of its tests; a call with no history keeps what it promises where the state is damaged, where the rules refuse, and where they accept.
 use Rattle.std.specs.Prelude.{◌≡◌, Bool, true, false, [], ℕ, ◌≤◌, ◌<◌}
 use Rattle.std.proofs.Math.Path.{refl, sym, ap, subst}
-use Rattle.std.proofs.Common.{◌∙◌, arith}
+use Rattle.std.proofs.Common.{◌∙◌, arith, ⊎_elim}
 use Rattle.std.proofs.Math.Bool.{cond}
+use Rattle.std.proofs.lemmas.Bool.{cases_lt}
 use borrow.Author.Tests.{eqb-true, lt-ltb, le-ltb}
 use Rattle.rules.specs.Sizes.{max_flags}
 use Rattle.rules.specs.Answers.{Answer, Accepted, BadSize, BadFlags, Damaged, number, accepts, refuse, ◌then◌}
 use Rattle.rules.specs.Game as rules
 use Rattle.rules.specs.Game.{TrueSize}
 use Rattle.rules.specs.Calls.{Result, result, side_ok, size_answer, flags_answer, new_answer, new_game}
-use Rattle.rules.proofs.Laws.Lists.{and_both}
+use Rattle.rules.proofs.Laws.Lists.{and_both, decided}
 use Rattle.rules.proofs.Laws.Calls.{size-true}
 use Rattle.game.specs.declared.state.Game.{Game}
 use Rattle.game.specs.View.{view_of, TrueState, fresh_state}
@@ -23,7 +24,7 @@ module _ (h w flags : ℕ) where
   unfolding new_game
   new-by-answer e = ap (λ (a : Answer). cond (accepts a) (rules.fresh_game h w flags) (rules.fresh_game 1 1 0)) e
 
-  made-refused : (a : Answer) → accepts a ≡ false → new_answer h w flags ≡ a → {answer : ℕ} {g' : Game} → answer ≡ number a → g' ≡ fresh_state 1 1 0 → Made h w flags answer g'
+  pub made-refused : (a : Answer) → accepts a ≡ false → new_answer h w flags ≡ a → {answer : ℕ} {g' : Game} → answer ≡ number a → g' ≡ fresh_state 1 1 0 → Made h w flags answer g'
   made-refused a no' e told same =
       record {
         answered = told ∙ ap number (sym e);
@@ -34,28 +35,44 @@ module _ (h w flags : ℕ) where
       }
 
   -- in the order of the tests
-  pub made-low : side_ok h ≡ false → {answer : ℕ} {g' : Game} → answer ≡ number BadSize → g' ≡ fresh_state 1 1 0 → Made h w flags answer g'
+  pub too_low : side_ok h ≡ false → new_answer h w flags ≡ BadSize
   unfolding new_answer size_answer refuse ◌then◌ accepts number
-  made-low bad = made-refused BadSize refl (rw bad)
+  too_low bad = rw bad
 
-  pub made-narrow : side_ok h ≡ true → side_ok w ≡ false → {answer : ℕ} {g' : Game} → answer ≡ number BadSize → g' ≡ fresh_state 1 1 0 → Made h w flags answer g'
+  pub too_narrow : side_ok h ≡ true → side_ok w ≡ false → new_answer h w flags ≡ BadSize
   unfolding new_answer size_answer refuse ◌then◌ accepts number
-  made-narrow tall bad = made-refused BadSize refl (rw (tall, bad))
+  too_narrow tall bad = rw (tall, bad)
 
-  module _ (tall : side_ok h ≡ true) (wide : side_ok w ≡ true) where
-    pub made-unflagged : max_flags < flags → {answer : ℕ} {g' : Game} → answer ≡ number BadFlags → g' ≡ fresh_state 1 1 0 → Made h w flags answer g'
-    unfolding new_answer size_answer flags_answer refuse ◌then◌ accepts number
-    made-unflagged bad = made-refused BadFlags refl (rw (tall, wide, lt-ltb max_flags flags bad))
+  pub unflagged : side_ok h ≡ true → side_ok w ≡ true → max_flags < flags → new_answer h w flags ≡ BadFlags
+  unfolding new_answer size_answer flags_answer refuse ◌then◌ accepts number
+  unflagged tall wide bad = rw (tall, wide, lt-ltb max_flags flags bad)
 
-    pub made-fresh : flags ≤ max_flags → {g' : Game} → g' ≡ fresh_state h w flags → Made h w flags 0 g'
-    unfolding new_answer size_answer flags_answer refuse ◌then◌ accepts number
-    made-fresh fits same =
-        let e : new_answer h w flags ≡ Accepted = rw (tall, wide, le-ltb max_flags flags fits) in
-        record {
-          answered = ap number (sym e);
-          shown = ap view_of same ∙ fresh-view h w flags ∙ sym (new-by-answer e);
-          kept = subst TrueState (sym same) (fresh-true h w flags (size-true h w (and_both tall wide)) fits);
-        }
+  pub can_begin : side_ok h ≡ true → side_ok w ≡ true → flags ≤ max_flags → new_answer h w flags ≡ Accepted
+  unfolding new_answer size_answer flags_answer refuse ◌then◌ accepts number
+  can_begin tall wide fits = rw (tall, wide, le-ltb max_flags flags fits)
+
+  -- what is accepted passes every test
+  begins : new_answer h w flags ≡ Accepted → (side_ok h ≡ true) × (side_ok w ≡ true) × (flags ≤ max_flags)
+  begins e =
+      ⊎_elim (λ (tall : side_ok h ≡ true).
+      ⊎_elim (λ (wide : side_ok w ≡ true).
+      ⊎_elim (λ (over : max_flags < flags). let bad : BadFlags ≡ Accepted = sym (unflagged tall wide over) ∙ e in cc)
+      (λ (fits : flags ≤ max_flags). (tall, wide, fits))
+      (cases_lt max_flags flags))
+      (λ (narrow : side_ok w ≡ false). let bad : BadSize ≡ Accepted = sym (too_narrow tall narrow) ∙ e in cc)
+      (decided (side_ok w)))
+      (λ (low : side_ok h ≡ false). let bad : BadSize ≡ Accepted = sym (too_low low) ∙ e in cc)
+      (decided (side_ok h))
+
+  pub made-fresh : new_answer h w flags ≡ Accepted → {answer : ℕ} {g' : Game} → answer ≡ number Accepted → g' ≡ fresh_state h w flags → Made h w flags answer g'
+  unfolding accepts number
+  made-fresh e told same =
+      let (tall, wide, fits) = begins e in
+      record {
+        answered = told ∙ ap number (sym e);
+        shown = ap view_of same ∙ fresh-view h w flags ∙ sym (new-by-answer e);
+        kept = subst TrueState (sym same) (fresh-true h w flags (size-true h w (and_both tall wide)) fits);
+      }
 
 -- ---- A call with no history
 

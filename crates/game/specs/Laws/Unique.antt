@@ -1,8 +1,8 @@
 -- What is equal whether a statement holds or not is equal: so two results that meet one promise are, though no law decides if a state is true.
-use Rattle.std.specs.Prelude.{◌≡◌, refl, Bool, true, false, List, ◌⊎◌, ℕ}
+use Rattle.std.specs.Prelude.{◌≡◌, refl, Bool, true, false, List, ◌⊎◌, ℕ, Option, None, Some}
 use Rattle.std.proofs.Common.{sym, ap, ◌∙◌, inl, inr, ⊎_elim}
 use Rattle.std.proofs.Math.Logic.{⊎_map}
-use Rattle.std.proofs.Math.Option.{Option, none, some, none-ne-some, some-injective}
+use Rattle.std.proofs.lemmas.Option.{none-some, same_Some}
 use Rattle.rules.specs.Lists.{same}
 use Rattle.rules.specs.Game as rules
 use Rattle.rules.proofs.Laws.Lists.{decided, equal_or_not, both_ways, not-both, same-equal, same_self}
@@ -19,10 +19,10 @@ pub bytes_same : {P : Type 0} (xs ys : List ℕ) → (P → xs ≡ ys) → (¬ P
 bytes_same xs ys = either_way (lists-or-not xs ys)
 
 points-or-not : (x y : Option ℕ) → (x ≡ y) ⊎ ¬ (x ≡ y)
-points-or-not none none = inl refl
-points-or-not none (some n) = inr (λ e. none-ne-some n e)
-points-or-not (some m) none = inr (λ e. none-ne-some m (sym e))
-points-or-not (some m) (some n) = ⊎_map (ap some) (λ apart e. apart (some-injective m n e)) (equal_or_not m n)
+points-or-not None None = inl refl
+points-or-not None (Some n) = inr (λ e. none-some n e)
+points-or-not (Some m) None = inr (λ e. none-some m (sym e))
+points-or-not (Some m) (Some n) = ⊎_map (ap Some) (λ apart e. apart (same_Some m n e)) (equal_or_not m n)
 
 marks-or-not : (a b : Bool) → (a ≡ b) ⊎ ¬ (a ≡ b)
 marks-or-not true b = ⊎_map sym (λ n e. not-both (sym e) n) (decided b)

@@ -1,7 +1,7 @@
 -- Laws of a state's view: a fresh state shows a fresh game and is true, every byte names a player, when a history has room, and a game is its board and its numbers.
-use Rattle.std.specs.Prelude.{◌≡◌, refl, true, false, List, ◌≢◌, ℕ, ◌≤◌, eqb, length}
+use Rattle.std.specs.Prelude.{◌≡◌, refl, true, false, List, ◌≢◌, ℕ, ◌≤◌, eqb, length, None, Some}
 use Rattle.std.proofs.Common.{ap, ◌∙◌, inl, inr, ⊎_elim, arith, eq-eqb, ne_eqb}
-use Rattle.std.proofs.Math.Option.{none, some, none-ne-some}
+use Rattle.std.proofs.lemmas.Option.{none-some}
 use Rattle.rules.specs.Sizes.{max_flags}
 use Rattle.rules.specs.Points.{area}
 use Rattle.rules.specs.Colours.{empty, black, white}
@@ -24,28 +24,28 @@ turn-player x = ⊎_elim (λ (y : eqb x white ≡ true). rw y (inr refl)) (λ (n
 
 -- ---- The bytes and what they mean
 
-pub ko-none : (x : ℕ) → x ≡ no_point → ko_of x ≡ none
+pub ko-none : (x : ℕ) → x ≡ no_point → ko_of x ≡ None
 unfolding ko_of
 ko-none x e = rw (eq-eqb x no_point e)
 
-pub ko-some : (x : ℕ) → x ≢ no_point → ko_of x ≡ some x
+pub ko-some : (x : ℕ) → x ≢ no_point → ko_of x ≡ Some x
 unfolding ko_of
 ko-some x n = rw (ne_eqb x no_point n)
 
-pub outcome-black : (x : ℕ) → x ≡ black → outcome_of x ≡ some black
+pub outcome-black : (x : ℕ) → x ≡ black → outcome_of x ≡ Some black
 unfolding outcome_of
 outcome-black x e = rw (eq-eqb x black e)
 
-pub outcome-white : (x : ℕ) → x ≡ white → outcome_of x ≡ some white
+pub outcome-white : (x : ℕ) → x ≡ white → outcome_of x ≡ Some white
 unfolding outcome_of
 outcome-white x e = rw (ne_eqb x black (λ b. omega arith), eq-eqb x white e)
 
-pub outcome-none : (x : ℕ) → x ≢ black → x ≢ white → outcome_of x ≡ none
+pub outcome-none : (x : ℕ) → x ≢ black → x ≢ white → outcome_of x ≡ None
 unfolding outcome_of
 outcome-none x n m = rw (ne_eqb x black n, ne_eqb x white m)
 
 -- the outcome that names the player whom a byte names
-pub outcome-turn : (x : ℕ) → outcome_of (turn_of x) ≡ some (turn_of x)
+pub outcome-turn : (x : ℕ) → outcome_of (turn_of x) ≡ Some (turn_of x)
 unfolding turn_of outcome_of
 outcome-turn x = ⊎_elim (λ (y : eqb x white ≡ true). rw y) (λ (n : eqb x white ≡ false). rw n) (decided (eqb x white))
 
@@ -75,8 +75,8 @@ fresh-view h w flags =
       passes = 0;
       white_held = 0;
       black_held = 0;
-      ko_point = none;
-      outcome = none;
+      ko_point = None;
+      outcome = None;
       handicap = 0;
       accepted = 0;
       black_put = 0;
@@ -100,8 +100,8 @@ fresh-true h w flags size flagged =
             board = true-colours (new_board h w) board;
             mover = inl refl;
             pauses = omega arith;
-            ko_on = λ k e. absurd (none-ne-some k e);
-            named = λ c e. absurd (none-ne-some c e);
+            ko_on = λ k e. absurd (none-some k e);
+            named = λ c e. absurd (none-some c e);
             limited = omega arith;
             handicapped = omega arith;
             black_kept = let z = none_of black (λ e. omega arith) in omega arith;

@@ -1,31 +1,22 @@
 -- Laws of History: a record is among the first of the lent bytes exactly if the rules say that its board is recorded, and what is noted
 -- is what the rules note.
-use Rattle.std.specs.Prelude.{◌≡◌, refl, ℕ, ◌+◌, ◌*◌, ◌-◌, ◌≤◌, ◌<◌, length}
+use Rattle.std.specs.Prelude.{◌≡◌, refl, ℕ, ◌+◌, ◌*◌, ◌<◌}
 use Rattle.std.proofs.Math.Path.{sym, ap}
-use Rattle.std.proofs.Common.{◌∙◌, arith, length-drop, length-take-le}
+use Rattle.std.proofs.Common.{◌∙◌}
 use Rattle.std.proofs.Math.Bool.{true, false}
 use mathlib.Core.List.{List, ◌++◌}
 use Rattle.std.proofs.Math.ListN.{take, drop}
 use Rattle.rules.specs.Sizes.{record_bytes}
 use Rattle.rules.specs.Lists.{below, same}
-use Rattle.rules.specs.Records.{record_of, capacity, stored, recorded, records_after, bytes_after}
+use Rattle.rules.specs.Records.{record_of, stored, recorded, records_after, bytes_after}
 use Rattle.rules.proofs.Laws.Lists.{any-yes, any_none, mem_below, below-mem}
-use Rattle.rules.proofs.Laws.Records.{length-record, room}
+use Rattle.rules.proofs.Laws.Records.{room}
 use Rattle.history.specs.History.{among, Noting, Noted, Adding}
 
 -- the code looks for a record as the rules look for a board
 pub among-recorded : (bytes : List ℕ) (n : ℕ) (cols : List ℕ) → among bytes n (record_of cols) ≡ recorded bytes n cols
 unfolding among recorded
 among-recorded bytes n cols = refl
-
--- the bytes from where a record starts to where it ends are the stored record, and a whole one
-pub part-stored : (bytes : List ℕ) (i : ℕ) → take (record_bytes * i + record_bytes - record_bytes * i) (drop (record_bytes * i) bytes) ≡ stored bytes i
-unfolding stored
-part-stored bytes i = let size : record_bytes * i + record_bytes - record_bytes * i ≡ record_bytes = omega arith in rw size
-
-pub length-stored : (bytes : List ℕ) (n i : ℕ) → n ≤ capacity bytes → i < n → length (stored bytes i) ≡ record_bytes
-unfolding stored capacity
-length-stored bytes n i within l = length-take-le record_bytes (drop (record_bytes * i) bytes) (rw (length-drop (record_bytes * i) bytes) (omega arith))
 
 module _ (bytes : List ℕ) (n : ℕ) (r : List ℕ) where
   pub among-here : (i : ℕ) → i < n → same (stored bytes i) r ≡ true → among bytes n r ≡ true
@@ -61,5 +52,4 @@ pub adding : (bytes : List ℕ) (n : ℕ) (r : List ℕ) → Noting bytes n r �
 adding bytes n r is k =
     record {
       fits = room bytes n is.colours is.free (sym (among-recorded bytes n is.colours) ∙ ap (among bytes n) (sym is.its) ∙ k);
-      long = ap length is.its ∙ length-record is.colours;
     }

@@ -1,9 +1,9 @@
 -- Laws of lists: one that is overwritten from a place on, element by element, and two that are compared so.
-use Rattle.std.specs.Prelude.{◌≡◌, true, false, List, ◌++◌, ℕ, ◌+◌, ◌<◌, length, get_or, set, take, drop}
-use Rattle.std.proofs.Common.{ap, ◌∙◌, append_assoc, add-one, arith, take_all, ext_get_or}
+use Rattle.std.specs.Prelude.{◌≡◌, refl, Bool, ◌&&◌, List, [], ◌∷◌, ◌++◌, ℕ, ◌+◌, ◌<◌, eqb, length, get_or, set, take, drop}
+use Rattle.std.proofs.Common.{ap, ◌∙◌, append_assoc, add-one, arith, take_all}
+use lib.Pointwise.{pointwise}
 use Rattle.std.proofs.Math.Seq.{paste, paste-suc}
 use Rattle.rules.specs.Lists.{same}
-use Rattle.rules.proofs.Laws.Lists.{not_yes, same-equal, same_self}
 
 -- ---- d, in which the first j elements of s stand from the place k on
 
@@ -20,10 +20,9 @@ paste-whole d k s n e =
 
 -- ---- Lists compared
 
-pub same_not : (xs ys : List ℕ) (i : ℕ) → (get_or xs i 0 ≡ get_or ys i 0 → ⊥) → same xs ys ≡ false
-same_not xs ys i apart = not_yes (λ y. apart (ap (λ (l : List ℕ). get_or l i 0) (same-equal xs ys y)))
-
-pub same-each : (xs ys : List ℕ) → length xs ≡ length ys → ((i : ℕ) → i < length xs → get_or xs i 0 ≡ get_or ys i 0) → same xs ys ≡ true
-same-each xs ys long each = rw (ext_get_or 0 xs ys long each) (same_self ys)
-
--- ---- One value repeated
+-- the library compares as the definition does
+pub same-pointwise : (xs ys : List ℕ) → pointwise eqb xs ys ≡ same xs ys
+same-pointwise [] [] = refl
+same-pointwise [] (y ∷ ys) = refl
+same-pointwise (x ∷ xs) [] = refl
+same-pointwise (x ∷ xs) (y ∷ ys) = ap (λ (t : Bool). eqb x y && t) (same-pointwise xs ys)

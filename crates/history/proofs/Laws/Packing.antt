@@ -1,7 +1,9 @@
 -- Laws of Packing: the colours of the largest board's points are packed as the board's own, and a record is made of its parts.
-use Rattle.std.specs.Prelude.{◌≡◌, List, [], ◌∷◌, ◌++◌, ℕ, ◌+◌, ◌*◌, ◌/◌, ◌%◌, ◌^◌, ◌≤◌, ltb, take, drop, replicate}
+use Rattle.std.specs.Prelude.{◌≡◌, refl, List, [], ◌∷◌, ◌++◌, ℕ, zero, suc, ◌+◌, ◌*◌, ◌/◌, ◌%◌, ◌^◌, ◌≤◌, ltb, take, drop, replicate}
 use Rattle.std.proofs.Common.{sym, ap₂, ◌∙◌, ⊎_elim, arith, take_at, drop_at, drop-drop, ltb-true, ltb-false}
 use Rattle.std.proofs.Math.Path.{ap, fun_ext}
+use native.Mathlib.Nat.{div-one}
+use Rattle.std.specs.Int.{bytes_low_first}
 use Rattle.std.proofs.Math.ListN.{length, get_or-eq_default}
 use Rattle.rules.specs.Sizes.{max_area, hash_bytes, colour_bytes, record_bytes}
 use Rattle.rules.specs.Lists.{tabulate}
@@ -51,6 +53,14 @@ module _ (hash : ℕ) (bytes : List ℕ) (e : bytes ≡ low_bytes hash_bytes has
   unfolding low_bytes record_by
   record-made cols = assembled (low_bytes hash_bytes hash) (colour_part cols) (length-tabulate (λ i. hash / 256 ^ i % 256) 0 hash_bytes) bytes e
 
-  pub record-long : length bytes ≡ record_bytes
-  unfolding low_bytes
-  record-long = ap length e
+-- ---- The hash's bytes
+
+low_from : (i n x : ℕ) → bytes_low_first i n x ≡ tabulate (λ k. x / 256 ^ k % 256) i n
+low_from i zero x = refl
+low_from zero (suc n) x = ap₂ {C = List ℕ} (λ b l. b ∷ l) (ap (λ (y : ℕ). y % 256) (sym (div-one x))) (low_from 1 n x)
+low_from (suc i) (suc n) x = ap (λ (l : List ℕ). (x / 256 ^ suc i % 256) ∷ l) (low_from (suc (suc i)) n x)
+
+-- the library's bytes of a number are the low bytes of the definition
+pub low-bytes : (n x : ℕ) → bytes_low_first 0 n x ≡ low_bytes n x
+unfolding low_bytes
+low-bytes n x = low_from 0 n x

@@ -39,6 +39,12 @@ pub record Gathered (start : Board) (p c : ℕ) (qs : List ℕ) (b : Board) (s :
   pub coarser : (x y : ℕ) → owner start x ≡ owner start y → owner b x ≡ owner b y
   pub joined : (q : ℕ) → Memᴰ q (neighbours start.height start.width p) → Memᴰ q qs ⊎ (colour_at start q ≡ c → owner b q ≡ s)
 
+-- the stone p of colour c is on the board start, in the slot s, and no neighbour is joined with it yet
+pub record Joinable (start : Board) (p c s : ℕ) : Type 0 where
+  pub player : Player c
+  pub own : colour_at start p ≡ c
+  pub gathered : Gathered start p c (neighbours start.height start.width p) start s
+
 module _ (start : Board) (p c : ℕ) (player : Player c) (own : colour_at start p ≡ c) where
   -- the two chains that a neighbour of the colour asks to join
   pub to-join :
@@ -158,19 +164,27 @@ module _ (b : Board) (largest : Largest b) (p c s : ℕ) (is : Putting b p c s) 
   abbrev beside : List ℕ
   beside = neighbours b.height b.width p
 
+  pub put-joinable : Joinable start p c s
+  unfolding put
+  put-joinable =
+      record {
+        player = is.player;
+        own = put-own;
+        gathered =
+            record {
+              table = put-exact is;
+              tall = refl;
+              wide = refl;
+              colours = λ q. refl;
+              stone = owner_here is;
+              coarser = λ x y e. e;
+              joined = λ q m. inl m;
+            };
+      }
+
   pub put-gathered : Gathered start p c [] (join_all c beside start s).board (join_all c beside start s).slot
   unfolding put
-  put-gathered =
-      gathered start p c is.player put-own beside start s (λ q m. m)
-      (record {
-        table = put-exact is;
-        tall = refl;
-        wide = refl;
-        colours = λ q. refl;
-        stone = owner_here is;
-        coarser = λ x y e. e;
-        joined = λ q m. inl m;
-      })
+  put-gathered = gathered start p c is.player put-own beside start s (λ q m. m) put-joinable.gathered
 
   -- stones of one colour side by side: one of them is the new one, or both stood before
   pub gathered-largest : {b' : Board} {s' : ℕ} → Gathered start p c [] b' s' → Largest b'

@@ -2,13 +2,12 @@
 -- that do not reach empty (Clearing), since such a stone has one of its chain beside the new one; the own chain is lifted exactly where
 -- clearing one's own colour would empty it; and an exact table of largest sets over true colours is a true board.
 use Rattle.std.proofs.Math.Path.{◌≡◌, sym, ap, ap₂, fun_ext}
-use Rattle.std.specs.Prelude.{refl, Bool, true, false, not, ◌&&◌, ◌≢◌, ℕ, ◌≤◌, ◌<◌, length}
+use Rattle.std.specs.Prelude.{refl, Bool, true, false, not, ◌&&◌, ◌≢◌, ℕ, ◌≤◌, ◌<◌, length, Option, None, Some}
 use Rattle.std.proofs.Common.{◌∙◌, subst, zero-le, suc-le-suc, arith, ext_get_or}
 use Rattle.std.proofs.Math.Bool.{cond}
 use mathlib.Core.List.Memᴰ
 use mathlib.Core.List.{List, [], ◌∷◌, Memᴰ}
 use Rattle.std.proofs.Math.Logic.{inl, ⊎_elim}
-use Rattle.std.proofs.Math.Option.{Option, none, some}
 use Rattle.std.proofs.Math.Dec.{eqb}
 use borrow.Author.Tests.{eqb-true, eq-eqb, ne_eqb}
 use Rattle.rules.specs.Sizes.{slots}
@@ -50,12 +49,12 @@ same-colours b is h w cols same whole each =
     ext_get_or empty (colours_of b) cols (length-colours b ∙ same ∙ sym whole) (λ q l. at-colours b is q ∙ each q)
 
 -- the one element of a list, if it has one
-sole : (xs : List ℕ) (x : ℕ) → (length xs ≡ 1 → Memᴰ x xs) → cond (eqb (length xs) 1) (some x) none ≡ sole_of xs
+sole : (xs : List ℕ) (x : ℕ) → (length xs ≡ 1 → Memᴰ x xs) → cond (eqb (length xs) 1) (Some x) None ≡ sole_of xs
 unfolding sole_of
 sole [] x is = refl
-sole (y ∷ []) x is = ap {B = Option ℕ} some (Memᴰ.eq_of_singleton (is refl))
+sole (y ∷ []) x is = ap {B = Option ℕ} Some (Memᴰ.eq_of_singleton (is refl))
 sole (y ∷ z ∷ zs) x is =
-    ap (λ (u : Bool). cond u (some x) none) (ne_eqb (length (y ∷ z ∷ zs)) 1 (λ e. let l : 2 ≤ length (y ∷ z ∷ zs) = suc-le-suc (suc-le-suc zero-le) in omega arith))
+    ap (λ (u : Bool). cond u (Some x) None) (ne_eqb (length (y ∷ z ∷ zs)) 1 (λ e. let l : 2 ≤ length (y ∷ z ∷ zs) = suc-le-suc (suc-le-suc zero-le) in omega arith))
 
 module _ (b : Board) (is : TrueBoard b) (p c s : ℕ) (putting : Putting b p c s) where
   -- ---- The boards on the way
@@ -240,6 +239,9 @@ module _ (b : Board) (is : TrueBoard b) (p c s : ℕ) (putting : Putting b p c s
   pub slot-used : used (chain_in after joined.slot) ≡ true
   slot-used = subst (λ (k : ℕ). used (chain_in after k) ≡ true) here-owner (t.table.owned p here-owned).2
 
+  pub after-table : ExactTable after
+  after-table = t.table
+
   slot-colour : (q : ℕ) → owner after q ≡ joined.slot → colour_at after q ≡ c
   slot-colour q e = owner-colour after joined.slot q e ∙ sym (owner-colour after joined.slot p here-owner) ∙ here-colour
 
@@ -421,7 +423,7 @@ module _ (b : Board) (is : TrueBoard b) (p c s : ℕ) (putting : Putting b p c s
     pub lay-ko : (lay b p c s (forbids flags SUICIDE)).ko_point ≡ sole_of (removed b.height b.width foe before moved)
     unfolding lay finished removed
     lay-ko =
-        ap (λ (n : ℕ). cond (eqb n 1) (some haul.point) none) lay-taken
+        ap (λ (n : ℕ). cond (eqb n 1) (Some haul.point) None) lay-taken
         ∙ sole (removed b.height b.width foe before moved) haul.point
         (λ one.
         let (on, y) = t.sample (λ z. let bad : ◌≡◌ {A = ℕ} 1 0 = sym one ∙ sym lay-taken ∙ z in omega arith) in

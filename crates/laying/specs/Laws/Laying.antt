@@ -1,8 +1,7 @@
 -- What the code of laying a stone needs of the laws: the search for a free slot ends at one, and what the turns over the points beside
 -- lead to is what is promised.
-use Rattle.std.specs.Prelude.{Bool, true, ◌&&◌, List, ◌≢◌, ◌≡◌, ℕ, ◌+◌, ◌<◌, eqb, get_or, drop}
+use Rattle.std.specs.Prelude.{Bool, true, ◌&&◌, List, ◌≢◌, ◌≡◌, ℕ, ◌+◌, ◌<◌, eqb, get_or, drop, None, Some}
 use Rattle.std.proofs.Math.Bool.{cond, not}
-use Rattle.std.proofs.Math.Option.{none, some}
 use Rattle.std.proofs.Math.Path.{sym, ap, ap₂, subst}
 use Rattle.std.proofs.Common.{◌∙◌, arith, drop_of_length-le, eq-eqb, ne_eqb}
 use Rattle.std.proofs.Math.Decide.{dec_lt}
@@ -11,14 +10,12 @@ use Rattle.rules.specs.Points.{neighbours}
 use Rattle.rules.specs.Colours.{other}
 use Rattle.rules.specs.Flags.{SUICIDE, forbids}
 use Rattle.rules.proofs.Laws.Lists.{get_d_default}
-use Rattle.points.specs.Place.{place_of}
 use Rattle.chains.specs.declared.group.Chain.{Chain}
-use Rattle.chains.specs.declared.group.Slot.TheVariants.{At}
 use Rattle.chains.specs.Group.{used, free_chain, first_free}
-use Rattle.chains.specs.Laws.Group.{first_free-step}
+use Rattle.chains.specs.Laws.Group.{first_free-step, first_free-at}
 use Rattle.board.specs.declared.goban.Board.{Board}
 use Rattle.board.specs.Board.{chain_in, colours_of}
-use Rattle.board.specs.True.{TrueBoard}
+use Rattle.board.specs.True.{ExactTable, TrueBoard}
 use Rattle.board.specs.Laws.Board.{at-colours, unowned-empty}
 use Rattle.board.specs.Laws.Slots.{slot-free}
 use Rattle.steps.specs.Steps.{put, remove}
@@ -26,7 +23,7 @@ use Rattle.steps.specs.Putting.{Putting}
 use Rattle.laying.specs.Laying.{Laying, LaidOut}
 use Rattle.laying.specs.declared.lay.Laid as code
 use Rattle.laying.specs.Lay.{Joined, join_all, dead, Haul, take_all, Laid, finished, lay}
-use Rattle.laying.specs.Laws.Lay.{slot-low, slot-used, ends, lay-true, lay-colours, lay-taken, lay-lost, lay-ko}
+use Rattle.laying.specs.Laws.Lay.{slot-low, slot-used, after-table, ends, lay-true, lay-colours, lay-taken, lay-lost, lay-ko}
 
 -- ---- The search: what is first free from slot 0 on is first free from slot s on
 
@@ -43,7 +40,7 @@ module _ (b : Board) (is : TrueBoard b) (s : ℕ) (so_far : first_free 0 b.chain
     search-next n =
         so_far
         ∙ first_free-step b.chains s d (omega (arith, search-low, is.table.shape.chains))
-        ∙ ap (λ (t : Bool). cond (not t) (first_free (s + 1) (drop (s + 1) b.chains)) (At s)) (ne_eqb (get_or b.chains s d).count 0 n)
+        ∙ ap (λ (t : Bool). cond (not t) (first_free (s + 1) (drop (s + 1) b.chains)) (Some s)) (ne_eqb (get_or b.chains s d).count 0 n)
 
     pub search-found : (p c flags : ℕ) → Laying b p c flags → (get_or b.chains s d).count ≡ 0 → Putting b p c s
     unfolding used chain_in
@@ -58,6 +55,25 @@ module _ (b : Board) (is : TrueBoard b) (s : ℕ) (so_far : first_free 0 b.chain
               ap (λ (x : Chain). not (eqb x.count 0)) (get_d_default b.chains s free_chain d (omega (arith, search-low, is.table.shape.chains)))
               ∙ ap not (eq-eqb (get_or b.chains s d).count 0 e);
         }
+
+-- the first free slot is there, and a stone may be put in it
+module _ (b : Board) (p c flags : ℕ) (laying : Laying b p c flags) where
+  pub free-found : first_free 0 b.chains ≢ None
+  free-found = slot-free b laying.board
+
+  pub free-putting : (s : ℕ) → first_free 0 b.chains ≡ Some s → Putting b p c s
+  unfolding chain_in
+  free-putting s e =
+      let (k, same, is) = first_free-at 0 b.chains s e in
+      let here : s ≡ k = omega (arith, same) in
+      record {
+        table = laying.board.table;
+        on = laying.on;
+        vacant = unowned-empty b laying.board.table p (sym (at-colours b laying.board.table p) ∙ laying.empty);
+        player = laying.player;
+        within = rw here (omega (arith, is.within, laying.board.table.shape.chains));
+        free = rw here is.free;
+      }
 
 -- ---- The end: the board start has the stone, whole has it joined, after has the dead enemy lifted
 
@@ -84,6 +100,9 @@ module _ (b : Board) (p c flags s : ℕ) (is : Laying b p c flags) (putting : Pu
     end-used =
         sym (ap₂ (λ (h : Haul) (j : Joined). used (chain_in h.board j.slot)) takes joins) ∙ slot-used b is.board p c s putting
 
+    pub end-table : ExactTable after
+    end-table = subst (λ (h : Haul). ExactTable h.board) takes (after-table b is.board p c s putting)
+
     abbrev keep : Bool
     keep = forbids flags SUICIDE
 
@@ -96,7 +115,7 @@ module _ (b : Board) (p c flags s : ℕ) (is : Laying b p c flags) (putting : Pu
 
     pub laid_out :
         (r : code.Laid) (gone : Bool) → not keep && dead after t ≡ gone → r.board ≡ cond gone (remove after t) after → r.taken ≡ stones →
-        r.lost ≡ cond gone (chain_in after t).count 0 → place_of r.ko ≡ cond (eqb stones 1) (some point) none → LaidOut b p c flags r
+        r.lost ≡ cond gone (chain_in after t).count 0 → r.ko ≡ cond (eqb stones 1) (Some point) None → LaidOut b p c flags r
     unfolding finished
     laid_out r gone test same number own ko =
         record {

@@ -1,12 +1,10 @@
--- Laws of lists: asking along a map or a table, and what stands in one of four places.
-use Rattle.std.specs.Prelude.{◌≡◌, refl, Bool, true, false, not, ◌&&◌, ◌||◌, List, [], ◌∷◌, map, ℕ, zero, suc, ◌+◌, ◌-◌, ◌<◌, length, get_or, replicate}
+-- Laws of lists: asking along a map or a table, and a map of what is there.
+use Rattle.std.specs.Prelude.{◌≡◌, refl, Bool, true, false, not, ◌&&◌, ◌||◌, List, [], ◌∷◌, map, ℕ, zero, suc, ◌+◌, ◌<◌, length, get_or, Option, None, Some}
 use Rattle.std.proofs.Common.{ap, ap₂, ◌∙◌, subst, arith}
-use Rattle.std.proofs.lemmas.List.{length-map}
-use Rattle.std.proofs.Math.ListN.{get_or-append, get_or-map}
-use Rattle.rules.specs.Lists.{tabulate, any}
-use Rattle.rules.proofs.Laws.Lists.{get_d_default, any-yes, mem-tabulate}
+use Rattle.std.specs.Option.{option_map}
+use Rattle.rules.specs.Lists.{tabulate, any, present}
+use Rattle.rules.proofs.Laws.Lists.{any-yes, mem-tabulate}
 use Rattle.rules.proofs.Laws.Places.{tabulate-shift}
-use Rattle.legality.specs.Near.{in_four}
 
 pub not-or : (a b : Bool) → not (a || b) ≡ not a && not b
 not-or true b = refl
@@ -16,6 +14,11 @@ module _ {A : Type 0} {B : Type 0} where
   pub any-map : (f : B → Bool) (g : A → B) (xs : List A) → any f (map g xs) ≡ any (λ x. f (g x)) xs
   any-map f g [] = refl
   any-map f g (x ∷ xs) = ap (λ (t : Bool). f (g x) || t) (any-map f g xs)
+
+  pub present-map : (g : A → B) (os : List (Option A)) → present (map (option_map g) os) ≡ map g (present os)
+  present-map g [] = refl
+  present-map g (None ∷ os) = present-map g os
+  present-map g (Some x ∷ os) = ap (λ (l : List B). g x ∷ l) (present-map g os)
 
 -- ---- Tables
 
@@ -38,13 +41,3 @@ module _ {A : Type 0} where
   tabulate-places f [] = refl
   tabulate-places f (x ∷ xs) =
       ap (λ (r : List A). f x ∷ r) (tabulate-shift (λ k. f (get_or (x ∷ xs) k 0)) 0 (length xs) ∙ tabulate-places f xs)
-
--- ---- Four places
-
-pub get_or-in_four : (f : ℕ → ℕ) (xs : List ℕ) (k : ℕ) → k < length xs → get_or (in_four (map f xs)) k 0 ≡ f (get_or xs k 0)
-unfolding in_four
-get_or-in_four f xs k h =
-    let l : k < length (map f xs) = omega (arith, length-map xs f) in
-    get_or-append (map f xs) (replicate (4 - length (map f xs)) 0) 0 k l
-    ∙ get_d_default (map f xs) k 0 (f 0) l
-    ∙ get_or-map f xs k 0

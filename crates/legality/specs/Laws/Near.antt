@@ -1,27 +1,23 @@
 -- Laws of Near: the tests on what stands near are the rules' tests of suicide, ko and capture.
-use Rattle.std.specs.Prelude.{◌≡◌, cond, ◌&&◌, ◌||◌, List, map, ◌≢◌, get_or}
+use Rattle.std.specs.Prelude.{◌≡◌, cond, ◌&&◌, ◌||◌, List, map, ◌≢◌, Option}
 use Rattle.std.proofs.Math.Path.{refl, ap}
 use Rattle.std.proofs.Common.{◌∙◌}
 use Rattle.std.proofs.Math.Bool.{Bool, true, false, not, or-false}
 use Rattle.std.proofs.Math.Logic.{⊎_elim}
-use Rattle.std.proofs.Math.Option.{Option}
-use Prim.Native.Nat.{ℕ, ◌+◌, ◌<◌, min}
+use Prim.Native.Nat.{ℕ}
 use native.Mathlib.Omega.{arith}
 use Rattle.std.proofs.Math.Dec.{eqb, ltb}
-use Rattle.std.proofs.Math.ListN.{length}
 use borrow.Author.Tests.{eqb-true, eq-eqb, ne_eqb}
-use Rattle.rules.specs.Lists.{tabulate, any}
+use Rattle.rules.specs.Lists.{any}
 use Rattle.rules.specs.Colours.{empty, other, at}
-use Rattle.rules.specs.Points.{neighbours}
+use Rattle.rules.specs.Points.{sides, neighbours}
 use Rattle.rules.specs.Chain.{size, liberties}
 use Rattle.rules.specs.Tests.{in_atari, suicide, is_ko_point, ko, captures}
 use Rattle.rules.proofs.Laws.Lists.{decided, equal_or_not, any-or, any_same}
-use Rattle.rules.proofs.Laws.Points.{neighbours-few}
-use Rattle.rules.proofs.Laws.Places.{tabulate-ext}
 use Rattle.legality.specs.declared.near.Near.{Near}
 use Rattle.legality.specs.declared.near.Beside.{Beside}
-use Rattle.legality.specs.Near.{of_stone, near_of, filled, place, besides, caught, catches_more, saves}
-use Rattle.legality.specs.Laws.Lists.{not-or, any-map, any-tabulate-some, any-tabulate-none, tabulate-places, get_or-in_four}
+use Rattle.legality.specs.Near.{of_stone, seen, near_of, besides, caught, catches_more, saves}
+use Rattle.legality.specs.Laws.Lists.{not-or, any-map, present-map}
 
 -- ---- What keeps a stone alive, case by case
 
@@ -57,51 +53,26 @@ module _ (own : ℕ) (b : Beside) where
   unfolding saves
   saves-other n m = simp (ne_eqb b.colour empty n, ne_eqb b.colour own m)
 
--- ---- The places
-
-module _ (f : Beside → Bool) (n : Near) where
-  pub besides-some : (i : ℕ) → i < filled n → f (place n i) ≡ true → any f (besides n) ≡ true
-  unfolding besides
-  besides-some i h e = any-tabulate-some f (place n) (filled n) i h e
-
-  pub besides-none : ((i : ℕ) → i < filled n → f (place n i) ≡ false) → any f (besides n) ≡ false
-  unfolding besides
-  besides-none h = any-tabulate-none f (place n) (filled n) h
+-- ---- What stands beside the point
 
 module _ (h w : ℕ) (cols : List ℕ) where
-  -- what stands at a point, as the rules see it
-  unfoldable seen : ℕ → Beside
-  seen q =
-      record { colour = at cols q; liberties = of_stone cols (liberties h w cols) q; stones = of_stone cols (size h w cols) q }
+  besides-near : (p : ℕ) → besides (near_of h w cols p) ≡ map (seen h w cols) (neighbours h w p)
+  unfolding besides near_of neighbours
+  besides-near p = present-map (seen h w cols) (sides h w p)
 
-  besides-near : (p : ℕ) → besides (near_of h w cols p) ≡ map seen (neighbours h w p)
-  unfolding besides filled place near_of seen
-  besides-near p =
-      let ns = neighbours h w p in
-      let all : min (length ns) 4 ≡ length ns = omega (arith, neighbours-few h w p) in
-      ap (tabulate (place (near_of h w cols p)) 0) all
-      ∙ tabulate-ext (place (near_of h w cols p)) (λ k. seen (get_or ns k 0)) 0 (length ns)
-      (λ k l. let m : 0 + k < length ns = omega arith in
-      λ i. record {
-        colour = get_or-in_four (at cols) ns (0 + k) m i;
-        liberties = get_or-in_four (of_stone cols (liberties h w cols)) ns (0 + k) m i;
-        stones = get_or-in_four (of_stone cols (size h w cols)) ns (0 + k) m i;
-      })
-      ∙ tabulate-places seen ns
-
-  any-near : (f : Beside → Bool) (g : ℕ → Bool) → ((q : ℕ) → f (seen q) ≡ g q) → (n : Near) (p : ℕ) → n ≡ near_of h w cols p
+  any-near : (f : Beside → Bool) (g : ℕ → Bool) → ((q : ℕ) → f (seen h w cols q) ≡ g q) → (n : Near) (p : ℕ) → n ≡ near_of h w cols p
       → any f (besides n) ≡ any g (neighbours h w p)
   any-near f g e n p is =
       ap (λ (m : Near). any f (besides m)) is
       ∙ ap (any f) (besides-near p)
-      ∙ any-map f seen (neighbours h w p)
-      ∙ any_same (λ q. f (seen q)) g (neighbours h w p) (λ q m. e q)
+      ∙ any-map f (seen h w cols) (neighbours h w p)
+      ∙ any_same (λ q. f (seen h w cols q)) g (neighbours h w p) (λ q m. e q)
 
   -- ---- Place by place the tests ask what the rules ask
 
   saves-seen :
       (own q : ℕ) →
-      saves own (seen q) ≡ eqb (at cols q) empty || (eqb (at cols q) own && not (in_atari h w cols q)) || (eqb (at cols q) (other own) && in_atari h w cols q)
+      saves own (seen h w cols q) ≡ eqb (at cols q) empty || (eqb (at cols q) own && not (in_atari h w cols q)) || (eqb (at cols q) (other own) && in_atari h w cols q)
   unfolding saves caught seen of_stone in_atari
   saves-seen own q = go (eqb (at cols q) empty) (eqb (at cols q) own) (eqb (at cols q) (other own)) (liberties h w cols q)
     where
@@ -110,7 +81,7 @@ module _ (h w : ℕ) (cols : List ℕ) where
       go false a b l = refl
 
   more-seen :
-      (q : ℕ) → catches_more (seen q) ≡ not (eqb (at cols q) empty) && in_atari h w cols q && ltb 1 (size h w cols q)
+      (q : ℕ) → catches_more (seen h w cols q) ≡ not (eqb (at cols q) empty) && in_atari h w cols q && ltb 1 (size h w cols q)
   unfolding catches_more seen of_stone in_atari
   more-seen q = go (eqb (at cols q) empty) (liberties h w cols q) (size h w cols q)
     where
@@ -118,7 +89,7 @@ module _ (h w : ℕ) (cols : List ℕ) where
       go true l s = refl
       go false l s = refl
 
-  caught-seen : (own q : ℕ) → caught (other own) (seen q) ≡ eqb (at cols q) (other own) && in_atari h w cols q
+  caught-seen : (own q : ℕ) → caught (other own) (seen h w cols q) ≡ eqb (at cols q) (other own) && in_atari h w cols q
   unfolding caught seen of_stone in_atari
   caught-seen own q =
       ⊎_elim

@@ -29,27 +29,13 @@ use Rattle.looking.specs.Laws.Sight.{sight-at}
 use Rattle.game.specs.declared.state.Game.{Game}
 use Rattle.game.specs.View.{turn_of, view_of, TrueState, RoomIn}
 use Rattle.checking.specs.declared.spot.Spot.TheVariants.{Stone, Empty}
-use Rattle.checking.specs.declared.superko.Told.{Told}
-use Rattle.checking.specs.declared.superko.Told.TheVariants.{Answer, IfRecorded}
-use Rattle.checking.specs.Told.{at_ko, told_of, told_near, settled, undecided}
+use Rattle.checking.specs.Told.{Told, Answer, at_ko, told_of, told_near, settled, undecided}
 use Rattle.checking.specs.Spot.{spot_of}
 use Rattle.checking.specs.Asking.{Asking, Repeating}
 use Rattle.checking.specs.Laws.Spot.{spot-of}
 use Rattle.checking.specs.Laws.Near.{read-near, read-colours, own-eye}
 use Rattle.checking.specs.Laws.Asking.{stone-answer, empty-answer, told-forbidden, told-repeating}
-use Rattle.legals.specs.Legals.{told_at, settled_free, refused}
-
--- ---- What is told, with what the records hold
-
-settled-known : (t : Told) (again : Bool) → undecided t ≡ false → settled_free t ≡ eqb (settled t again) 0
-settled-known (Answer n) again e = refl
-settled-known IfRecorded again e = absurd (not-both refl e)
-
-settled-again : (t : Told) (again : Bool) → undecided t ≡ true → not again ≡ eqb (settled t again) 0
-unfolding refuse number
-settled-again (Answer n) again e = absurd (not-both e refl)
-settled-again IfRecorded true e = refl
-settled-again IfRecorded false e = refl
+use Rattle.legals.specs.Legals.{told_at, refused}
 
 -- ---- As it is told
 
@@ -63,7 +49,7 @@ told-empty h w cs ls ss p own ko records flags e n near k at-ko =
     told_of flags (not (any (saves own) (besides (near i)))) (at-ko i && not (any catches_more (besides (near i)))) (eye h w cs own p)
     (any (caught (other own)) (besides (near i))) records)
     ∙ sym
-    (ap (λ (b : Bool). cond b (told_near flags (near_in h w cs ls ss p) cs h w own ko records p) (Answer (number answers.PointNotEmpty)))
+    (ap (λ (b : Bool). cond b (told_near flags (near_in h w cs ls ss p) cs h w own ko records p) (Answer answers.PointNotEmpty))
     (eq-eqb (at cs p) empty e))
 
 -- ---- A point of a true board
@@ -87,11 +73,11 @@ module _ (g : Game) (is : TrueBoard g.board) (flags p : ℕ) (on : p < area g.bo
   eyed : eye h w s.colours own p ≡ eye h w cols (turn_of g.turn) p
   eyed = own-eye g p is _ (read-colours g.board is s read) own mover
 
-  by-colour : (free : Bool) → eqb (at cols p) empty ≡ free → t ≡ cond free tests (Answer (number answers.PointNotEmpty))
+  by-colour : (free : Bool) → eqb (at cols p) empty ≡ free → t ≡ cond free tests (Answer answers.PointNotEmpty)
   unfolding told_at
   by-colour free e =
       let shown : at s.colours p ≡ at cols p = sight-at g.board is _ (read-colours g.board is s read) p in
-      told ∙ ap (λ (b : Bool). cond b tests (Answer (number answers.PointNotEmpty))) (ap (λ (k : ℕ). eqb k empty) shown ∙ e)
+      told ∙ ap (λ (b : Bool). cond b tests (Answer answers.PointNotEmpty)) (ap (λ (k : ℕ). eqb k empty) shown ∙ e)
 
   spot-by : (free : Bool) → eqb (at cols p) empty ≡ free → spot_of h w cols (row w p) (column w p) ≡ cond free (Empty p) Stone
   spot-by free e = spot-of h w cols p on ∙ ap (λ (b : Bool). cond b (Empty p) Stone) e
@@ -112,13 +98,9 @@ module _ (g : Game) (is : TrueBoard g.board) (flags p : ℕ) (on : p < area g.bo
         ∙ sym (ap (λ (x : Told). settled x again) (by-colour false n)))
         (decided (eqb (at cols p) empty))
 
-    pub legal-known : undecided t ≡ false → settled_free t ≡ accepts (point_answer (view_of g) bytes flags (row w p) (column w p))
+    pub legal-settled : eqb (settled t again) 0 ≡ accepts (point_answer (view_of g) bytes flags (row w p) (column w p))
     unfolding accepts
-    legal-known e = settled-known t again e ∙ ap (λ (n : ℕ). eqb n 0) (sym legal-told)
-
-    pub legal-again : undecided t ≡ true → not again ≡ accepts (point_answer (view_of g) bytes flags (row w p) (column w p))
-    unfolding accepts
-    legal-again e = settled-again t again e ∙ ap (λ (n : ℕ). eqb n 0) (sym legal-told)
+    legal-settled = ap (λ (n : ℕ). eqb n 0) (sym legal-told)
 
   pub legal-repeating : (n : ℕ) → TrueState g → RoomIn g n → undecided t ≡ true → Repeating g n p
   unfolding told_near

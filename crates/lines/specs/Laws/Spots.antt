@@ -1,43 +1,38 @@
 -- Laws of the spots: the buffer while they are laid, one after the other.
-use Rattle.std.specs.Prelude.{◌≡◌, ℕ, suc, ◌+◌, ◌*◌, ◌≤◌, ◌<◌, get_or}
-use Rattle.std.proofs.Math.Path.{sym, ap, ap₂}
-use Rattle.std.proofs.Common.{◌∙◌, subst, zero-add, arith, take_all, drop-cons}
-use mathlib.Core.List.{List, [], ◌∷◌, ◌++◌, map}
-use Rattle.std.proofs.Math.Option.{none, some}
-use Rattle.std.proofs.Math.Numerals.{add-one}
-use Rattle.std.proofs.Math.ListN.{length, drop, set, length-map, get_or-map}
+use Rattle.std.specs.Prelude.{◌≡◌, refl, List, [], ◌∷◌, ◌++◌, map, ℕ, suc, ◌+◌, ◌*◌, ◌≤◌, ◌<◌, min, length, get_or, drop, set, Option, None, Some}
+use Rattle.std.proofs.Common.{sym, ap, ap₂, ◌∙◌, subst, zero-add, add-one, arith, take_all, drop-cons}
+use Rattle.std.proofs.Math.ListN.{length-map, get_or-map}
 use Rattle.std.proofs.Math.Seq.{paste, paste-zero, paste-suc}
 use Rattle.std.proofs.lemmas.List.Edits.{length-paste}
+use Rattle.std.proofs.lemmas.Option.{none-some, same_Some}
 use Rattle.rules.specs.Calls.{Spot}
 use Rattle.lines.specs.declared.read.NextSpot.{NextSpot}
 use Rattle.spelling.specs.Text.{words}
-use Rattle.spelling.specs.Number.{byte_of, numbers, consed}
-use Rattle.lines.specs.Command.{handicap_of, spotted, pairs}
+use Rattle.spelling.specs.Number.{byte_of, number_of, numbers, consed}
+use Rattle.spelling.specs.Steps.{most, numeral}
+use Rattle.lines.specs.Command.{Handicap, handicap_of, spotted, pairs}
 use Rattle.lines.specs.Reads.{packed}
-use Rattle.spelling.specs.Steps.{Numbered}
-use Rattle.lines.specs.Steps.{Names, Spotting, SpotIs, Spotted, Laying}
+use Rattle.lines.specs.Steps.{Names, SpotIs, Spotted, Laying}
 use Rattle.lines.specs.Laws.Calls.{byte-capped}
 use Rattle.lines.specs.Laws.Handicap.{spot-step, no-spot, no-handicap, handicap-same}
 
 no_spot : Spot
 no_spot = record { row = 0; column = 0 }
 
-module _ (text : List ℕ) (from : ℕ) (before : List ℕ) (count : ℕ) where
-  -- so many of the spots are laid, and the others stand from the place on
-  pub record LaidUpto (at laid : ℕ) (after : List ℕ) : Type 0 where
-    pub within : at ≤ length text
+module _ (text : List ℕ) (before : List ℕ) (count : ℕ) where
+  -- so many of the spots are laid, and the others are those of the rest
+  pub record LaidUpto (rest : List ℕ) (laid : ℕ) (after : List ℕ) : Type 0 where
     pub whole : List Spot
-    pub its : Names text from whole
+    pub its : Names text whole
     pub counted : length whole ≡ count
     pub fits : count ≤ length before
     pub upto : laid ≤ count
-    pub left : Names text at (drop laid whole)
+    pub left : Names rest (drop laid whole)
     pub written : after ≡ paste before 0 (map packed whole) laid
 
-  pub laid_none : Laying text from count before → LaidUpto from 0 before
+  pub laid_none : Laying text count before → LaidUpto text 0 before
   laid_none l =
       record {
-        within = l.within;
         whole = l.spots;
         its = l.its;
         counted = l.counted;
@@ -47,39 +42,40 @@ module _ (text : List ℕ) (from : ℕ) (before : List ℕ) (count : ℕ) where
         written = paste-zero before 0 (map packed l.spots);
       }
 
-  module _ {at laid : ℕ} {after : List ℕ} (u : LaidUpto at laid after) where
+  module _ {rest : List ℕ} {laid : ℕ} {after : List ℕ} (u : LaidUpto rest laid after) where
     pub laid-length : length after ≡ length before
     laid-length =
         ap length u.written
         ∙ length-paste before 0 (map packed u.whole) laid (omega (arith, u.upto, u.fits)) (rw length-map (omega (arith, u.upto, u.counted)))
 
     module _ (more : laid < count) where
-      spot-left : Names text at (get_or u.whole laid no_spot ∷ drop (suc laid) u.whole)
-      spot-left = subst (Names text at) (drop-cons u.whole laid no_spot (omega (arith, u.counted))) u.left
+      -- the spot that is next, and the others
+      next-is : (r : Option NextSpot) → Spotted rest r → SpotIs (get_or u.whole laid no_spot) (drop (suc laid) u.whole) r
+      unfolding Spotted
+      next-is r s = s _ _ (subst (Names rest) (drop-cons u.whole laid no_spot (omega (arith, u.counted))) u.left)
 
-      pub laid_next : Spotting text at
-      laid_next = record { within = u.within; spot = get_or u.whole laid no_spot; others = drop (suc laid) u.whole; its = spot-left }
+      pub laid-not : Spotted rest None → ⊥
+      laid-not s = next-is None s
 
-      pub laid_more : (r : NextSpot) → Spotted text at r → LaidUpto r.next (laid + 1) (set after laid r.spot)
-      unfolding no_spot packed byte_of Spotted
+      pub laid_more : (r : NextSpot) → Spotted rest (Some r) → LaidUpto r.behind.now (laid + 1) (set after laid r.spot)
+      unfolding no_spot packed byte_of
       laid_more r s =
-          let is : SpotIs text (get_or u.whole laid no_spot) (drop (suc laid) u.whole) r = s (get_or u.whole laid no_spot) (drop (suc laid) u.whole) spot-left in
+          let is = next-is (Some r) s in
           record {
-            within = is.within;
             whole = u.whole;
             its = u.its;
             counted = u.counted;
             fits = u.fits;
             upto = omega arith;
-            left = rw add-one is.left;
+            left = rw add-one is.1;
             written =
-                ap₂ (λ (l : List ℕ) (v : ℕ). set l laid v) u.written (is.first ∙ sym (get_or-map packed u.whole laid no_spot))
+                ap₂ (λ (l : List ℕ) (v : ℕ). set l laid v) u.written (is.0 ∙ sym (get_or-map packed u.whole laid no_spot))
                 ∙ ap (λ (k : ℕ). set (paste before 0 (map packed u.whole) laid) k (get_or (map packed u.whole) laid 0)) (sym (zero-add laid))
                 ∙ paste-suc before 0 (map packed u.whole) laid 0 (omega (arith, u.fits)) (rw length-map (omega (arith, u.counted)))
                 ∙ ap (paste before 0 (map packed u.whole)) (sym (add-one laid));
           }
 
-    pub laid-all : count ≤ laid → (spots : List Spot) → Names text from spots → after ≡ map packed spots ++ drop (length spots) before
+    pub laid-all : count ≤ laid → (spots : List Spot) → Names text spots → after ≡ map packed spots ++ drop (length spots) before
     unfolding Names
     laid-all l spots its =
         let same : u.whole ≡ spots = handicap-same (sym u.its ∙ its) in
@@ -90,37 +86,69 @@ module _ (text : List ℕ) (from : ℕ) (before : List ℕ) (count : ℕ) where
 
 -- ---- The next spot
 
-module _ {text : List ℕ} {from row second : ℕ} (n : Numbered text from row second) where
-  -- two numbers are a spot
-  pub spotted-both : {column behind : ℕ} → Numbered text second column behind → (r : NextSpot) → r.spot ≡ 256 * byte_of row + byte_of column → r.next ≡ behind → Spotted text from r
-  unfolding Spotted Names packed
-  spotted-both {column} {behind} m r e f spot others its =
-      let both = spot-step n.written m.written (numbers (words (drop behind text))) spot others
-      (sym (ap handicap_of (n.first ∙ ap (consed (some n.written)) m.first)) ∙ its) in
-      record {
-        first =
-            e
-            ∙ ap₂ (λ (a b : ℕ). 256 * a + b) (ap byte_of n.capped ∙ byte-capped n.written) (ap byte_of m.capped ∙ byte-capped m.written)
-            ∙ ap (λ (s : Spot). 256 * byte_of s.row + byte_of s.column) (sym both.0);
-        left = ap (λ (k : ℕ). handicap_of (numbers (words (drop k text)))) f ∙ both.1;
-        within = rw f m.within;
-      }
+-- a number that is read is the written one, capped
+numeral-is : (o : Option ℕ) (n : ℕ) → Some n ≡ numeral o → (m : ℕ) × (o ≡ Some m) × (n ≡ min m most)
+unfolding numeral
+numeral-is None n e = absurd (none-some n (sym e))
+numeral-is (Some m) n e = (m, refl, same_Some n (min m most) e)
 
-  -- a row with no column behind it is none
-  pub spotted-odd : words (drop second text) ≡ [] → (r : NextSpot) → Spotted text from r
-  unfolding Spotted Names consed numbers handicap_of spotted pairs
-  spotted-odd e r spot others its =
-      absurd (no-handicap (sym (ap handicap_of (n.first ∙ ap (λ (ws : List (List ℕ)). consed (some n.written) (numbers ws)) e)) ∙ its))
+numeral-none : (o : Option ℕ) → None ≡ numeral o → o ≡ None
+unfolding numeral
+numeral-none None e = refl
+numeral-none (Some m) e = absurd (none-some (min m most) e)
 
-  pub spotted-broken : numbers (words (drop second text)) ≡ none → (r : NextSpot) → Spotted text from r
+-- what is no pair at the front names no spot
+odd : (w : Option ℕ) (spot : Spot) (others : List Spot) → handicap_of (consed w (Some [])) ≡ Handicap (spot ∷ others) → ⊥
+unfolding consed handicap_of spotted pairs
+odd None spot others e = no-handicap e
+odd (Some n) spot others e = no-handicap e
+
+broken : (w : Option ℕ) (o : Option (List ℕ)) (spot : Spot) (others : List Spot) → handicap_of (consed w (consed None o)) ≡ Handicap (spot ∷ others) → ⊥
+unfolding consed handicap_of
+broken None o spot others e = no-handicap e
+broken (Some n) o spot others e = no-handicap e
+
+pub spotted-end : (text : List ℕ) → words text ≡ [] → Spotted text None
+unfolding Spotted Names numbers handicap_of spotted pairs
+spotted-end text e spot others its = no-spot (sym (ap (λ (ws : List (List ℕ)). handicap_of (numbers ws)) e) ∙ its)
+
+module _ (text : List ℕ) {row : List ℕ} (second : List ℕ) (e : words text ≡ row ∷ words second) where
+  -- the numbers, by the row and those behind it
+  front : handicap_of (numbers (words text)) ≡ handicap_of (consed (number_of row) (numbers (words second)))
+  unfolding numbers
+  front = ap (λ (ws : List (List ℕ)). handicap_of (numbers ws)) e
+
+  pub spotted-odd : words second ≡ [] → Spotted text None
+  unfolding Spotted Names numbers
+  spotted-odd f spot others its =
+      odd (number_of row) spot others (sym (front ∙ ap (λ (ws : List (List ℕ)). handicap_of (consed (number_of row) (numbers ws))) f) ∙ its)
+
+  pub spotted-bad : None ≡ numeral (number_of row) → Spotted text None
   unfolding Spotted Names consed handicap_of
-  spotted-broken e r spot others its = absurd (no-handicap (sym (ap handicap_of (n.first ∙ ap (consed (some n.written)) e)) ∙ its))
+  spotted-bad f spot others its =
+      no-handicap (sym (front ∙ ap (λ (w : Option ℕ). handicap_of (consed w (numbers (words second)))) (numeral-none (number_of row) f)) ∙ its)
 
-module _ (text : List ℕ) (from : ℕ) where
-  pub spotted-end : words (drop from text) ≡ [] → (r : NextSpot) → Spotted text from r
-  unfolding Spotted Names numbers handicap_of spotted pairs
-  spotted-end e r spot others its = absurd (no-spot (sym (ap (λ (ws : List (List ℕ)). handicap_of (numbers ws)) e) ∙ its))
+  module _ {column : List ℕ} (behind : List ℕ) (f : words second ≡ column ∷ words behind) where
+    both : handicap_of (numbers (words text)) ≡ handicap_of (consed (number_of row) (consed (number_of column) (numbers (words behind))))
+    unfolding numbers
+    both = front ∙ ap (λ (ws : List (List ℕ)). handicap_of (consed (number_of row) (numbers ws))) f
 
-  pub spotted-bad : numbers (words (drop from text)) ≡ none → (r : NextSpot) → Spotted text from r
-  unfolding Spotted Names handicap_of
-  spotted-bad e r spot others its = absurd (no-handicap (sym (ap handicap_of e) ∙ its))
+    pub spotted-broken : None ≡ numeral (number_of column) → Spotted text None
+    unfolding Spotted Names
+    spotted-broken g spot others its =
+        broken (number_of row) (numbers (words behind)) spot others
+        (sym (both ∙ ap (λ (w : Option ℕ). handicap_of (consed (number_of row) (consed w (numbers (words behind))))) (numeral-none (number_of column) g)) ∙ its)
+
+    -- two numbers are a spot
+    pub spotted-both : (r : NextSpot) {n m : ℕ} → Some n ≡ numeral (number_of row) → Some m ≡ numeral (number_of column) → r.spot ≡ 256 * byte_of n + byte_of m → r.behind.now ≡ behind → Spotted text (Some r)
+    unfolding Spotted Names packed
+    spotted-both r {n} {m} g h k b spot others its =
+        let one = numeral-is (number_of row) n g in
+        let two = numeral-is (number_of column) m h in
+        let step = spot-step one.0 two.0 (numbers (words behind)) spot others
+        (sym (both ∙ ap₂ (λ (v w : Option ℕ). handicap_of (consed v (consed w (numbers (words behind))))) one.1 two.1) ∙ its) in (
+          k
+              ∙ ap₂ (λ (a c : ℕ). 256 * a + c) (ap byte_of one.2 ∙ byte-capped one.0) (ap byte_of two.2 ∙ byte-capped two.0)
+              ∙ ap (λ (s : Spot). 256 * byte_of s.row + byte_of s.column) (sym step.0),
+          ap (λ (t : List ℕ). handicap_of (numbers (words t))) b ∙ step.1,
+        )

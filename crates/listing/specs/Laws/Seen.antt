@@ -12,10 +12,10 @@ use Rattle.rules.specs.Colours.{empty, at}
 use Rattle.rules.specs.Points.{area, index, neighbours}
 use Rattle.rules.specs.Flood.{chain, marked}
 use Rattle.rules.specs.Chain.{liberty, leads}
-use Rattle.rules.proofs.Laws.Lists.{below-mem, length-tabulate, any_same, pick_same}
+use Rattle.rules.proofs.Laws.Lists.{below-mem, any_same, pick_same}
 use Rattle.rules.proofs.Laws.Points.{index_on, neighbours-on}
 use Rattle.board.specs.declared.goban.Board.{Board}
-use Rattle.board.specs.Board.{owner, colour_at, colours_of}
+use Rattle.board.specs.Board.{owner, colours_of}
 use Rattle.board.specs.True.{TrueBoard}
 use Rattle.board.specs.Laws.Board.{area-fits, at-colours, stone-owned}
 use Rattle.board.specs.Laws.Views.{leads-origin}
@@ -24,7 +24,7 @@ use Rattle.viewing.specs.declared.shows.Local.TheVariants.{Chain, Liberties, Poi
 use Rattle.viewing.specs.declared.shows.Question as asks
 use Rattle.viewing.specs.declared.shows.Question.TheVariants as questions
 use Rattle.viewing.specs.View.{lead_at, view_of}
-use Rattle.viewing.specs.Seen.{key_of, meets, near, passed, Seen, OnBoard}
+use Rattle.viewing.specs.Seen.{key_of, meets, near, passed, OnBoard}
 use Rattle.listing.specs.Lists.{stone, shown_at, shown, listed}
 use Rattle.viewing.specs.Laws.View.{view-colour, view-lead, marked-lead, leads-lead}
 
@@ -101,7 +101,3 @@ module _ (b : Board) (is : TrueBoard b) where
       → pick (passed h w (view_of b).colours (view_of b).leads question) (below (area h w)) ≡ listed h w cols question
   unfolding listed
   passed-listed question at-point = pick_same _ _ (below (area h w)) (λ q m. passed-shown question q at-point (below-mem (area h w) q m))
-
-  pub view-seen : Seen (view_of b).colours (view_of b).leads h w
-  unfolding view_of
-  view-seen = record { painted = length-tabulate (colour_at b) 0 max_area; led = length-tabulate (lead_at b) 0 max_area; fits = area-fits is.table.size }

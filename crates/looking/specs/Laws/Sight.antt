@@ -41,7 +41,7 @@ module _ (b : Board) (is : TrueBoard b) where
     sight-at p = ap (λ (x : List ℕ). at x p) seen ∙ at-on_largest (colours_of b) colours-fit p
 
     sight-packing : Packing cs
-    sight-packing = record { long = sight-long; small = λ p. rw (sight-at p) (small p) }
+    sight-packing = record { small = λ p. rw (sight-at p) (small p) }
 
     sight-record : record_by b.hash cs ≡ record_of (colours_of b)
     unfolding record_by colour_part record_of

@@ -22,7 +22,7 @@ use Rattle.board.specs.True.{TrueBoard, Shaped}
 use Rattle.board.specs.Laws.Board.{at-colours, no-chain}
 use Rattle.board.specs.Laws.Views.{empty-owner, chain-size, chain-liberties}
 use Rattle.legality.specs.declared.near.Beside.{Beside}
-use Rattle.legality.specs.Near.{of_stone}
+use Rattle.legality.specs.Near.{of_stone, seen}
 use Rattle.looking.specs.Seen.{chain_seen, nothing, Readable}
 
 number-nothing : number none ≡ 0
@@ -92,3 +92,21 @@ module _ (b : Board) (is : TrueBoard b) (q : ℕ) where
   unfolding chain_seen free_chain
   stones-told =
       told (λ s. (chain_in b s).count) (size b.height b.width (colours_of b)) (ap (λ c. c.count) (no-chain b is.table.shape)) (chain-size b is q)
+
+  -- what the owner's chain shows is what the rules say of the point
+  pub board-seen : chain_seen (chain_in b (owner b q)) ≡ seen b.height b.width (colours_of b) q
+  unfolding seen
+  board-seen = λ i. record { colour = colour-told i; liberties = liberties-told i; stones = stones-told i }
+
+  -- so does the code, at any number
+  pub seen-beyond : max_area ≤ q → nothing ≡ seen b.height b.width (colours_of b) q
+  unfolding owner
+  seen-beyond l =
+      let off : owner b q ≡ slots = get_or-eq_default b.owners slots {n = q} (omega (arith, is.table.shape.owners)) in
+      sym (seen_nothing b is.table.shape (owner b q) (omega (arith, off))) ∙ board-seen
+
+  pub seen-unowned : q < max_area → slots ≤ get_or b.owners q 0 → nothing ≡ seen b.height b.width (colours_of b) q
+  seen-unowned low l = nothing_read b is q low _ refl l ∙ board-seen
+
+  pub seen-owned : q < max_area → get_or b.owners q 0 < slots → (d : Chain) → chain_seen (get_or b.chains (get_or b.owners q 0) d) ≡ seen b.height b.width (colours_of b) q
+  seen-owned low l d = ap chain_seen (chain-read b is q low _ refl l d) ∙ board-seen

@@ -1,14 +1,14 @@
 -- The tests of 01 for a board from colours, and placing them on a new board.
-use Rattle.std.specs.Prelude.{◌≡◌, true, false, List, ◌≢◌, ℕ, ltb, length}
+use Rattle.std.specs.Prelude.{◌≡◌, Bool, true, false, List, ◌≢◌, ℕ, ltb, length}
 use Rattle.std.proofs.Math.Path.{refl}
-use Rattle.std.proofs.Common.{sym, ap, ap₂, ◌∙◌, subst, eq-eqb, ne_eqb}
+use Rattle.std.proofs.Common.{sym, ap, ap₂, ◌∙◌, subst, eq-eqb, ne_eqb, true≢false}
 use Rattle.std.proofs.Math.Bool.{not}
 use Rattle.rules.specs.Lists.{any}
 use Rattle.rules.specs.Colours.{white}
 use Rattle.rules.specs.Points.{area}
 use Rattle.rules.specs.Game.{empty_board}
 use Rattle.rules.specs.Calls.{choked, size_answer, board_answer}
-use Rattle.rules.specs.Answers.{NoLiberty, BadLength, BadColour, number, accepts, ◌then◌, refuse}
+use Rattle.rules.specs.Answers.{Answer, NoLiberty, BadLength, BadColour, number, accepts, ◌then◌, refuse}
 use Rattle.rules.proofs.Laws.Answers.{then-refused, then-accepted, test-refuses, test-passes}
 use Rattle.board.specs.declared.goban.Board.{Board}
 use Rattle.placing.specs.declared.place.Placed.{Placed}
@@ -38,6 +38,12 @@ module _ (h w : ℕ) (cols : List ℕ) where
 
       pub board-choked : any (ltb white) cols ≡ false → board_answer h w cols ≡ refuse NoLiberty (choked h w cols)
       board-choked n = after-length ∙ test-passes BadColour _ n
+
+-- a test that refuses gives its own answer
+pub refused-as : (a : Answer) (t : Bool) → accepts (refuse a t) ≡ false → refuse a t ≡ a
+unfolding accepts number refuse
+refused-as a true bad = refl
+refused-as a false bad = absurd (true≢false bad)
 
 -- ---- Placing on a new board
 

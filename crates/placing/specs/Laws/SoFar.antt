@@ -13,7 +13,7 @@ use Rattle.board.specs.Board.{colours_of}
 use Rattle.board.specs.True.{TrueBoard}
 use Rattle.board.specs.Laws.Board.{length-colours}
 use Rattle.board.specs.Laws.Chains.{true-colours}
-use Rattle.placing.specs.Placing.{Stands, Stuck, Placing}
+use Rattle.placing.specs.Placing.{Stands, Stuck, Adding, Placing}
 use Rattle.placing.specs.Laws.Colours.{coloured-here, coloured-else, empty-at}
 use Rattle.placing.specs.Laws.Choked.{Grows, stuck-grows, stuck-choked, free-choked}
 
@@ -92,6 +92,18 @@ module _ (h w : ℕ) (given : List ℕ) (covers : length given ≡ area h w) (i 
         wide = is.wide;
         colours = ext_get_or empty (colours_of b) given (colours-length ∙ sym covers) (λ q l. is.done q (omega (arith, colours-length)));
       }
+
+-- the point whose turn it is may get its colour
+pub so-far-adding :
+    (onto : Board) (given : List ℕ) → Placing onto given → (i : ℕ) (b : Board) → SoFar onto.height onto.width given i b → i < length given
+    → Adding b i (at given i)
+so-far-adding onto given placing i b is on =
+    record {
+      is_true = is.is_true;
+      on = so-far-on _ _ given placing.covers i b is on;
+      vacant = is.rest i (omega arith);
+      known = placing.known i;
+    }
 
 -- on a true board no chain is choked
 pub stands-free : (h w : ℕ) (cols : List ℕ) (b : Board) → Stands h w cols b → choked h w cols ≡ false

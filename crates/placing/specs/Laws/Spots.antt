@@ -1,5 +1,5 @@
 -- Going through spots: what is left of them tells the answer and the colours of all, and their stones are Black's.
-use Rattle.std.specs.Prelude.{◌≡◌, Bool, true, false, ◌&&◌, ◌||◌, ◌≢◌, ℕ, zero, suc, ◌+◌, ◌≤◌, ◌<◌, ltb, leb, length, get_or, drop, set}
+use Rattle.std.specs.Prelude.{◌≡◌, Bool, true, false, ◌&&◌, ◌||◌, ◌≢◌, ℕ, zero, suc, ◌+◌, ◌≤◌, ◌<◌, ltb, leb, length, get_or, drop, set, Result, Ok, Err}
 use Rattle.std.proofs.Math.Path.{refl, sym, ap}
 use Rattle.std.proofs.Common.{ap₂, ◌∙◌, subst, ⊎_elim, arith, drop_of_length-le, drop-cons, eq-eqb, ne_eqb, ltb-true, ltb-false, le-leb}
 use Rattle.std.proofs.Math.Bool.{not}
@@ -11,19 +11,21 @@ use Rattle.std.proofs.lemmas.Bool.{lt-leb}
 use Rattle.rules.specs.Sizes.{max_area}
 use Rattle.rules.specs.Colours.{empty, black, white, at}
 use Rattle.rules.specs.Points.{area, index}
-use Rattle.rules.specs.Answers.{Answer, Accepted, OffBoard, PointNotEmpty, number, accepts}
+use Rattle.rules.specs.Answers.{Accepted, OffBoard, PointNotEmpty, number, accepts}
 use Rattle.rules.specs.Move.{coloured}
 use Rattle.rules.specs.Game.{TrueSize, empty_board}
 use Rattle.rules.specs.Calls.{Spot, outside, lay_black, spots_answer, lay_answer}
-use Rattle.rules.proofs.Laws.Lists.{and_left, and_right, not-both, decided}
+use Rattle.rules.proofs.Laws.Lists.{and_left, and_right, decided}
 use Rattle.rules.proofs.Laws.Points.{index_on}
 use Rattle.board.specs.Laws.Board.{area-fits}
 use Rattle.board.specs.declared.goban.Board.{Board}
-use Rattle.placing.specs.declared.handicap.Marked.{Marked}
+use Rattle.points.specs.Reason.{reason}
+use Rattle.points.specs.declared.answers.Refusal.{Refusal}
+use Rattle.points.proofs.Reasons.{refuses}
 use Rattle.placing.specs.declared.place.Placed.{Placed}
-use Rattle.placing.specs.Placing.{Outcome, Bare, Placing, PlacedOn, spot_of, spots_of, MarkedOut, Handicapped}
+use Rattle.placing.specs.Placing.{Outcome, Bare, Placing, PlacedOn, spot_of, spots_of, told, MarkedOut, Handicapped}
 use Rattle.placing.specs.Laws.Colours.{coloured-length, coloured-known, empty-length, empty-at}
-use Rattle.rules.proofs.Laws.Answers.{test-refuses, test-passes, zero-accepts, other-refuses}
+use Rattle.rules.proofs.Laws.Answers.{test-refuses, test-passes}
 use Rattle.placing.specs.Laws.Answers.{outcome-refused, outcome-as, lay-spots, lay-choked}
 
 take-replicate : {A : Type 0} (n m : ℕ) (a : A) → n ≤ m → take n (replicate m a) ≡ replicate n a
@@ -146,22 +148,19 @@ module _ (h w : ℕ) (size : TrueSize h w) (spots : List ℕ) where
   abbrev given : List Spot
   given = spots_of spots
 
-  pub marked_refused :
-      (a : Answer) (r : Marked) → spots_answer h w (empty_board h w) given ≡ a → accepts a ≡ false → r.answer ≡ number a → MarkedOut h w given r
-  marked_refused a r e n same =
-      record { answered = same ∙ ap number (sym e); marked = λ y. absurd (not-both y (ap accepts e ∙ n)) }
+  pub marked_refused : {r : Refusal} → spots_answer h w (empty_board h w) given ≡ reason r → MarkedOut h w given (Err r)
+  marked_refused e = record { answered = sym e; marked = λ colours z. cc }
 
-  pub marked_all : (r : Marked) (i : ℕ) → Marking h w spots r.colours i → length spots ≤ i → r.answer ≡ 0 → MarkedOut h w given r
-  unfolding number
-  marked_all r i is end same =
+  pub marked_all : (colours : List ℕ) (i : ℕ) → Marking h w spots colours i → length spots ≤ i → MarkedOut h w given (Ok colours)
+  marked_all colours i is end =
       record {
-        answered = same ∙ ap number (sym (marking-accepted r.colours i is end));
-        marked = λ y. sym (marking-stones r.colours i is end);
+        answered = sym (marking-accepted colours i is end);
+        marked = λ others z. let same : colours ≡ others = cc in ap (take (area h w)) (sym same) ∙ sym (marking-stones colours i is end);
       }
 
 -- ---- A handicap
 
-module _ (b : Board) (is : Bare b) (spots : List Spot) (m : Marked) (out : MarkedOut b.height b.width spots m) where
+module _ (b : Board) (is : Bare b) (spots : List Spot) (m : Result (List ℕ) Refusal) (out : MarkedOut b.height b.width spots m) where
   abbrev points : ℕ
   points = area b.height b.width
 
@@ -177,36 +176,38 @@ module _ (b : Board) (is : Bare b) (spots : List Spot) (m : Marked) (out : Marke
       (sym is.bare) o
 
   pub handicap-refused :
-      (r : Placed) → m.answer ≢ 0 → r.answer ≡ m.answer → r.board ≡ b →
+      (reason_for : Refusal) → m ≡ Err reason_for → (r : Placed) → r.answer ≡ number (reason reason_for) → r.board ≡ b →
       Handicapped b spots r
-  handicap-refused r n e same =
-      let bad = other-refuses (spots_answer b.height b.width (empty_board b.height b.width) spots) m.answer out.answered n in
-      on-bare (outcome-as (sym (lay-spots b.height b.width (empty_board b.height b.width) spots bad)) (outcome-refused (e ∙ out.answered) bad same))
+  handicap-refused reason_for e r number-of same =
+      let its : spots_answer b.height b.width (empty_board b.height b.width) spots ≡ reason reason_for = sym out.answered ∙ ap told e in
+      let bad = ap accepts its ∙ refuses reason_for in
+      on-bare (outcome-as (sym (lay-spots b.height b.width (empty_board b.height b.width) spots bad)) (outcome-refused (number-of ∙ ap number (sym its)) bad same))
 
-  module _ (z : m.answer ≡ 0) where
+  module _ (colours : List ℕ) (z : m ≡ Ok colours) where
     ok : accepts (spots_answer b.height b.width (empty_board b.height b.width) spots) ≡ true
-    ok = zero-accepts (spots_answer b.height b.width (empty_board b.height b.width) spots) m.answer out.answered z
+    unfolding accepts number
+    ok = ap accepts (sym out.answered ∙ ap told z)
 
-    pub handicap-placing : Placing b (take points m.colours)
+    pub handicap-placing : Placing b (take points colours)
     handicap-placing =
         record {
           onto = is;
           covers =
-              ap length (out.marked ok)
+              ap length (out.marked colours z)
               ∙ laid-length b.width (empty_board b.height b.width) spots
               ∙ empty-length b.height b.width;
           known =
-              subst (λ (cols : List ℕ). (q : ℕ) → at cols q ≤ white) (sym (out.marked ok))
+              subst (λ (cols : List ℕ). (q : ℕ) → at cols q ≤ white) (sym (out.marked colours z))
               (laid-known b.width (empty_board b.height b.width) spots (λ q. omega (arith, empty-at b.height b.width q)));
         }
 
     pub handicap-placed :
         (r : Placed) →
-        PlacedOn b (take points m.colours) r →
+        PlacedOn b (take points colours) r →
         Handicapped b spots r
     handicap-placed r o =
         on-bare
         (outcome-as (sym (lay-choked b.height b.width (empty_board b.height b.width) spots ok))
         (subst
         (λ (cols : List ℕ). PlacedOn b cols r)
-        (out.marked ok) o))
+        (out.marked colours z) o))

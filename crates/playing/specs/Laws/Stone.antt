@@ -1,12 +1,11 @@
 -- Laws of a stone: which test refuses it, what laying it may ask of an accepted one, and that the state which the code makes shows what
 -- the rules say and is true again.
-use Rattle.std.specs.Prelude.{◌≡◌, Bool, true, false, ◌≢◌, ℕ, ◌+◌, ◌≤◌, ◌<◌, eqb, leb, length}
+use Rattle.std.specs.Prelude.{◌≡◌, Bool, true, false, ◌≢◌, ℕ, ◌+◌, ◌≤◌, ◌<◌, eqb, leb, length, Some, None, Option, Result, Ok, Err}
 use Rattle.std.proofs.Math.Path.{refl, sym, ap, subst}
 use Rattle.std.proofs.Common.{◌∙◌, arith}
 use Rattle.std.proofs.Math.Bool.{cond}
 use mathlib.Core.List.{List}
 use Rattle.std.proofs.Math.Logic.{⊎_elim}
-use Rattle.std.proofs.Math.Option.{some}
 use borrow.Author.Tests.{eq-eqb, ne_eqb, eqb-false, le-leb, lt-leb}
 use Rattle.rules.specs.Sizes.{max_stones}
 use Rattle.rules.specs.Points.{index}
@@ -20,9 +19,9 @@ use Rattle.rules.proofs.Laws.Lists.{equal_or_not}
 use Rattle.rules.proofs.Laws.Colours.{other-player}
 use Rattle.rules.proofs.Laws.Keep.{stone-keeps}
 use Rattle.rules.proofs.Laws.Records.{bytes_after-length, records_after-fits}
-use Rattle.points.specs.declared.coord.Place.{Place}
-use Rattle.points.specs.declared.coord.Place.TheVariants.{Off, At}
-use Rattle.points.specs.Place.{place_of, Within}
+use Rattle.points.specs.declared.answers.Refusal.{Refusal}
+use Rattle.points.specs.Reason.{reason}
+use Rattle.points.specs.Place.{Within}
 use Rattle.board.specs.declared.goban.Board.{Board}
 use Rattle.board.specs.Board.{colours_of}
 use Rattle.board.specs.Laws.Board.{area-fits}
@@ -35,12 +34,11 @@ use Rattle.looking.specs.declared.look.Sight.{Sight}
 use Rattle.looking.specs.Laws.Sight.{sees-packing, sees-record}
 use Rattle.game.specs.declared.state.Game.{Game}
 use Rattle.game.specs.declared.clock.Clock.{Clock}
-use Rattle.game.specs.declared.calls.Ticked.{Ticked}
 use Rattle.game.specs.Clock.{clock_of, game_of}
 use Rattle.game.specs.View.{no_point, turn_of, outcome_of, begun_of, view_of, TrueState, RoomIn}
 use Rattle.game.specs.Laws.View.{turn-player}
-use Rattle.checking.specs.declared.superko.Told.{Told}
-use Rattle.checking.specs.Told.{known, undecided}
+use Rattle.points.proofs.Reasons.{nonzero}
+use Rattle.checking.specs.Told.{Told, known, undecided}
 use Rattle.checking.specs.Asking.{ToldAt}
 use Rattle.checking.specs.Laws.Told.{known-settles, passed-settles}
 use Rattle.checking.specs.Laws.Asking.{told-laying}
@@ -104,6 +102,15 @@ none-refuses false false false z = (refl, refl, refl)
 pub last-free : (again : Bool) (n : ℕ) (f : Bool) → number (last_answer again n f) ≡ 0 → f ≡ false
 unfolding last_answer
 last-free again n f z = (none-refuses again (eqb n max_stones) f z).2
+
+-- with fewer than two passes the point decides
+pub open-first : (passes k : ℕ) → passes ≢ 2 → first_answer passes k ≡ k
+unfolding first_answer
+open-first passes k n = ap (λ (b : Bool). cond b (number GamePaused) k) (ne_eqb passes 2 n)
+
+pub paused-first : (passes k : ℕ) → passes ≡ 2 → number GamePaused ≡ first_answer passes k
+unfolding first_answer
+paused-first passes k e = sym (ap (λ (b : Bool). cond b (number GamePaused) k) (eq-eqb passes 2 e))
 
 -- ---- What is known without the records
 
@@ -219,32 +226,31 @@ shown-ready b s cs k n r c is =
 module _ (b : Board) (s : Sight) (cs : List ℕ) (k : Clock) (bytes : List ℕ) (r c : ℕ) (is : Shown b s cs k (length bytes) r c)
     (t : Told) (told : ToldAt (game_of b k) k.flags r c t) (passes' : first_answer k.passes (known t) ≡ 0)
     (again : Bool) (looked : undecided t ≡ true → again ≡ recorded bytes k.records (resulting (view_of (game_of b k)) (index b.width r c)))
-    (skipped : undecided t ≡ false → again ≡ false) (turn : Turn) (bytes' : List ℕ) (done : Finished s k (colours_of b) bytes again turn bytes') where
-  pub finished-tested : Tested (game_of b k) bytes r c turn bytes'
-  unfolding game_of
-  finished-tested =
+    (skipped : undecided t ≡ false → again ≡ false) where
+  pub finished-tested :
+      (got : Result Turn Refusal) (bytes' : List ℕ) → Finished s k (colours_of b) bytes again got bytes' → Tested (game_of b k) bytes r c got bytes'
+  unfolding game_of number
+  finished-tested (Err e) bytes' (says, lent) =
+      let g = game_of b k in
+      subst (λ (after : List ℕ). CalledTrue (stone (view_of g) bytes r c) g bytes (number (reason e)) g after) (sym lent)
+      (last-refuses g bytes r c is.state is.room t told _ refl passes' again looked skipped _ refl _ (ap number says) (nonzero e))
+  finished-tested (Ok turn) bytes' done =
       let g = game_of b k in
       let here = done.point ∙ is.sees.point in
       record {
-        refused =
-            λ n.
-            subst (λ (after : List ℕ). CalledTrue (stone (view_of g) bytes r c) g bytes turn.answer g after) (sym (done.refused n))
-            (last-refuses g bytes r c is.state is.room t told _ refl passes' again looked skipped _ refl _ done.answered n);
-        granted = λ z. record {
-          allowed = last-allows g bytes r c is.state is.room t told _ refl passes' again looked skipped _ refl _ done.answered z;
-          point = here;
-          mover = done.mover;
-          laying = laying g bytes r c is.state is.room t told _ refl passes' here done.mover;
-          noted = done.noted z;
-        };
+        allowed = last-allows g bytes r c is.state is.room t told _ refl passes' again looked skipped _ refl 0 (ap number done.answered) refl;
+        point = here;
+        mover = done.mover;
+        laying = laying g bytes r c is.state is.room t told _ refl passes' here done.mover;
+        noted = done.noted;
       }
 
 -- ---- A stone that a true state accepts
 
 -- a ko point on the board is a number of its own
-place-within : (n : ℕ) (place : Place) → ((k : ℕ) → place_of place ≡ some k → k < n) → Within n (place_of place)
-place-within n Off low = tt
-place-within n (At p) low = low p refl
+place-within : (n : ℕ) (place : Option ℕ) → ((k : ℕ) → place ≡ Some k → k < n) → Within n place
+place-within n None low = tt
+place-within n (Some p) low = low p refl
 
 module _ (g : Game) (bytes : List ℕ) (r c : ℕ) (is : TrueState g) (turn : Turn) (bytes' : List ℕ) (ok : Granted g bytes r c turn bytes') where
   abbrev own : ℕ
@@ -273,7 +279,7 @@ module _ (g : Game) (bytes : List ℕ) (r c : ℕ) (is : TrueState g) (turn : Tu
     abbrev gone : ℕ → ℕ
     gone k = length (removed g.board.height g.board.width k (coloured (colours_of g.board) own point) (resulting (view_of g) point))
 
-    ko-within : Within no_point (place_of laid.ko)
+    ko-within : Within no_point laid.ko
     unfolding view_of stone_game resulting
     ko-within =
         place-within no_point laid.ko
@@ -284,9 +290,9 @@ module _ (g : Game) (bytes : List ℕ) (r c : ℕ) (is : TrueState g) (turn : Tu
     unfolding clock_of
     stone-moving = let few = true-few g is in record { held = few.0; put = few.1; more = ok.allowed.more; within = ko-within }
 
-    module _ (now : Ticked) (moved : Moved (clock_of g) turn.records laid.taken laid.lost laid.ko now) where
+    module _ (now : Clock) (moved : Moved (clock_of g) turn.records laid.taken laid.lost laid.ko now) where
       abbrev after : Clock
-      after = stoned (clock_of g) (other own) now.clock.ko now.clock.held now.clock.put turn.records
+      after = stoned (clock_of g) (other own) now.ko now.held now.put turn.records
 
       shown : view_of (game_of laid.board after) ≡ stone_game (view_of g) bytes point
       unfolding view_of clock_of game_of stoned stone_game resulting begun_of
@@ -325,7 +331,7 @@ module _ (g : Game) (bytes : List ℕ) (r c : ℕ) (is : TrueState g) (turn : Tu
           (rw (ok.noted.counted, ← long) fits)
 
       -- the board that is laid and the numbers are the game after the stone
-      pub stone-called : RoomIn g (length bytes) → CalledTrue (stone (view_of g) bytes r c) g bytes 0 (game_of laid.board now.clock) bytes'
+      pub stone-called : RoomIn g (length bytes) → CalledTrue (stone (view_of g) bytes r c) g bytes 0 (game_of laid.board now) bytes'
       unfolding clock_of
       stone-called room =
           subst (λ (k : Clock). CalledTrue (stone (view_of g) bytes r c) g bytes 0 (game_of laid.board k) bytes') (sym moved.clock) (stoned-called room)

@@ -1,9 +1,9 @@
 -- A promise leaves nothing free but what a true board leaves free: two results that meet it are equal in answer, view and bytes. Whether
 -- the state is true need not be decided: numbers, lists and options that are equal either way are equal.
-use Rattle.std.specs.Prelude.{◌≡◌, refl, Bool, true, false, List, ◌⊎◌, ℕ}
+use Rattle.std.specs.Prelude.{◌≡◌, refl, Bool, true, false, List, ◌⊎◌, ℕ, Option, None, Some}
 use Rattle.std.proofs.Common.{sym, ap, ◌∙◌, inl, inr, ⊎_elim}
 use Rattle.std.proofs.Math.Logic.{⊎_map}
-use Rattle.std.proofs.Math.Option.{Option, none, some, none-ne-some, some-injective}
+use Rattle.std.proofs.lemmas.Option.{none-some, same_Some}
 use Rattle.rules.specs.Lists.{same}
 use Rattle.rules.specs.Game as rules
 use Rattle.rules.specs.Calls.{Result}
@@ -24,10 +24,10 @@ lists-or-not xs ys =
     ⊎_map (same-equal xs ys) (λ (n : same xs ys ≡ false) e. not-both (ap (same xs) (sym e) ∙ same_self xs) n) (decided (same xs ys))
 
 points-or-not : (x y : Option ℕ) → (x ≡ y) ⊎ ¬ (x ≡ y)
-points-or-not none none = inl refl
-points-or-not none (some n) = inr (λ e. none-ne-some n e)
-points-or-not (some m) none = inr (λ e. none-ne-some m (sym e))
-points-or-not (some m) (some n) = ⊎_map (ap some) (λ apart e. apart (some-injective m n e)) (equal_or_not m n)
+points-or-not None None = inl refl
+points-or-not None (Some n) = inr (λ e. none-some n e)
+points-or-not (Some m) None = inr (λ e. none-some m (sym e))
+points-or-not (Some m) (Some n) = ⊎_map (ap Some) (λ apart e. apart (same_Some m n e)) (equal_or_not m n)
 
 marks-or-not : (a b : Bool) → (a ≡ b) ⊎ ¬ (a ≡ b)
 marks-or-not true b = ⊎_map sym (λ n e. not-both (sym e) n) (decided b)

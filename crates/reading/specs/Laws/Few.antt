@@ -1,7 +1,6 @@
 -- A line has few spots: no more than a quarter of its bytes.
-use Rattle.std.specs.Prelude.{◌≡◌, refl, true, false, List, [], ◌∷◌, ℕ, suc, ◌+◌, ◌*◌, ◌/◌, ◌≤◌, eqb, ltb, length}
+use Rattle.std.specs.Prelude.{◌≡◌, refl, true, false, List, [], ◌∷◌, ℕ, suc, ◌+◌, ◌*◌, ◌/◌, ◌≤◌, eqb, ltb, length, Option, None, Some}
 use Rattle.std.proofs.Common.{⊎_elim, zero-le, le_trans, arith, ltb-false}
-use Rattle.std.proofs.Math.Option.{Option, none, some}
 use Rattle.rules.specs.Lists.{same}
 use Rattle.rules.specs.Calls.{Spot}
 use Rattle.rules.proofs.Laws.Lists.{decided}
@@ -45,14 +44,14 @@ words-few (b ∷ l) = ⊎_elim (λ t. blanks b l t (words-few l)) (λ t. letters
 -- ---- A word for each number, two numbers for each spot
 
 abbrev count : Option (List ℕ) → ℕ
-count none = 0
-count (some ns) = length ns
+count None = 0
+count (Some ns) = length ns
 
 consed-few : (o : Option ℕ) (p : Option (List ℕ)) (n : ℕ) → count p ≤ n → count (consed o p) ≤ suc n
 unfolding consed
-consed-few none p n l = zero-le
-consed-few (some m) none n l = zero-le
-consed-few (some m) (some ms) n l = omega arith
+consed-few None p n l = zero-le
+consed-few (Some m) None n l = zero-le
+consed-few (Some m) (Some ms) n l = omega arith
 
 numbers-few : (ws : List (List ℕ)) → count (numbers ws) ≤ length ws
 unfolding numbers
@@ -61,8 +60,8 @@ numbers-few (w ∷ ws) = consed-few (number_of w) (numbers ws) (length ws) (numb
 
 preceded-few : (s : Spot) (p : Option (List Spot)) (n : ℕ) → 2 * spots_in (spotted p) ≤ n → 2 * spots_in (spotted (preceded s p)) ≤ suc (suc n)
 unfolding spotted preceded
-preceded-few s none n l = omega arith
-preceded-few s (some spots) n l = omega arith
+preceded-few s None n l = omega arith
+preceded-few s (Some spots) n l = omega arith
 
 pairs-few : (ns : List ℕ) → 2 * spots_in (spotted (pairs ns)) ≤ length ns
 unfolding pairs spotted
@@ -72,44 +71,44 @@ pairs-few (r ∷ c ∷ ns) = preceded-few (record { row = r; column = c }) (pair
 
 handicap-few : (o : Option (List ℕ)) → 2 * spots_in (handicap_of o) ≤ count o
 unfolding handicap_of
-handicap-few none = omega arith
-handicap-few (some ns) = pairs-few ns
+handicap-few None = omega arith
+handicap-few (Some ns) = pairs-few ns
 
 -- ---- The other calls have none
 
 new_none : (o : Option (List ℕ)) → spots_in (new_of o) ≡ 0
 unfolding new_of
-new_none none = refl
-new_none (some []) = refl
-new_none (some (a ∷ [])) = refl
-new_none (some (a ∷ b ∷ [])) = refl
-new_none (some (a ∷ b ∷ c ∷ [])) = refl
-new_none (some (a ∷ b ∷ c ∷ d ∷ [])) = ⊎_elim (λ t. rw t) (λ t. rw t) (decided (ltb max_lent d))
-new_none (some (a ∷ b ∷ c ∷ d ∷ e ∷ ns)) = refl
+new_none None = refl
+new_none (Some []) = refl
+new_none (Some (a ∷ [])) = refl
+new_none (Some (a ∷ b ∷ [])) = refl
+new_none (Some (a ∷ b ∷ c ∷ [])) = refl
+new_none (Some (a ∷ b ∷ c ∷ d ∷ [])) = ⊎_elim (λ t. rw t) (λ t. rw t) (decided (ltb max_lent d))
+new_none (Some (a ∷ b ∷ c ∷ d ∷ e ∷ ns)) = refl
 
 stone-none : (o : Option (List ℕ)) → spots_in (stone_of o) ≡ 0
 unfolding stone_of
-stone-none none = refl
-stone-none (some []) = refl
-stone-none (some (a ∷ [])) = refl
-stone-none (some (a ∷ b ∷ [])) = refl
-stone-none (some (a ∷ b ∷ c ∷ ns)) = refl
+stone-none None = refl
+stone-none (Some []) = refl
+stone-none (Some (a ∷ [])) = refl
+stone-none (Some (a ∷ b ∷ [])) = refl
+stone-none (Some (a ∷ b ∷ c ∷ ns)) = refl
 
 check-none : (o : Option (List ℕ)) → spots_in (check_of o) ≡ 0
 unfolding check_of
-check-none none = refl
-check-none (some []) = refl
-check-none (some (a ∷ [])) = refl
-check-none (some (a ∷ b ∷ [])) = refl
-check-none (some (a ∷ b ∷ c ∷ [])) = refl
-check-none (some (a ∷ b ∷ c ∷ d ∷ ns)) = refl
+check-none None = refl
+check-none (Some []) = refl
+check-none (Some (a ∷ [])) = refl
+check-none (Some (a ∷ b ∷ [])) = refl
+check-none (Some (a ∷ b ∷ c ∷ [])) = refl
+check-none (Some (a ∷ b ∷ c ∷ d ∷ ns)) = refl
 
 legals-none : (o : Option (List ℕ)) → spots_in (legals_of o) ≡ 0
 unfolding legals_of
-legals-none none = refl
-legals-none (some []) = refl
-legals-none (some (a ∷ [])) = refl
-legals-none (some (a ∷ b ∷ ns)) = refl
+legals-none None = refl
+legals-none (Some []) = refl
+legals-none (Some (a ∷ [])) = refl
+legals-none (Some (a ∷ b ∷ ns)) = refl
 
 player-none : (w : List ℕ) → spots_in (player_of w) ≡ 0
 unfolding player_of
@@ -134,19 +133,19 @@ alone-none command (w ∷ ws) e = refl
 none-few : {n : ℕ} (m : ℕ) → n ≡ 0 → 2 * n ≤ m
 none-few m e = omega arith
 
-called-few : (name : Name) (ws : List (List ℕ)) → 2 * spots_in (called name ws) ≤ length ws
+called-few : (name : Option Name) (ws : List (List ℕ)) → 2 * spots_in (called name ws) ≤ length ws
 unfolding called
-called-few names.New ws = none-few (length ws) (new_none (numbers ws))
-called-few names.Handicap ws = le_trans (handicap-few (numbers ws)) (numbers-few ws)
-called-few names.Stone ws = none-few (length ws) (stone-none (numbers ws))
-called-few names.Pass ws = none-few (length ws) (alone-none commands.Pass ws refl)
-called-few names.Resign ws = none-few (length ws) (resign-none ws)
-called-few names.Resume ws = none-few (length ws) (alone-none commands.Resume ws refl)
-called-few names.Check ws = none-few (length ws) (check-none (numbers ws))
-called-few names.Legals ws = none-few (length ws) (legals-none (numbers ws))
-called-few names.State ws = none-few (length ws) (alone-none commands.State ws refl)
-called-few names.Render ws = none-few (length ws) (alone-none commands.Render ws refl)
-called-few names.Other ws = none-few (length ws) refl
+called-few (Some names.New) ws = none-few (length ws) (new_none (numbers ws))
+called-few (Some names.Handicap) ws = le_trans (handicap-few (numbers ws)) (numbers-few ws)
+called-few (Some names.Stone) ws = none-few (length ws) (stone-none (numbers ws))
+called-few (Some names.Pass) ws = none-few (length ws) (alone-none commands.Pass ws refl)
+called-few (Some names.Resign) ws = none-few (length ws) (resign-none ws)
+called-few (Some names.Resume) ws = none-few (length ws) (alone-none commands.Resume ws refl)
+called-few (Some names.Check) ws = none-few (length ws) (check-none (numbers ws))
+called-few (Some names.Legals) ws = none-few (length ws) (legals-none (numbers ws))
+called-few (Some names.State) ws = none-few (length ws) (alone-none commands.State ws refl)
+called-few (Some names.Render) ws = none-few (length ws) (alone-none commands.Render ws refl)
+called-few None ws = none-few (length ws) refl
 
 command-few : (ws : List (List ℕ)) (n : ℕ) → 2 * length ws ≤ n + 1 → 4 * spots_in (command_of ws) ≤ n
 unfolding command_of

@@ -1,6 +1,7 @@
 -- Laws of a whole line: by its length, its first byte and its first word.
-use Rattle.std.specs.Prelude.{◌≡◌, refl, List, [], ◌∷◌, ℕ, ◌+◌, ◌-◌, ◌≤◌, ◌<◌, eqb, ltb, get_or, take}
+use Rattle.std.specs.Prelude.{◌≡◌, refl, true, false, List, [], ◌∷◌, ℕ, ◌+◌, ◌-◌, ◌≤◌, ◌<◌, eqb, ltb, get_or, take, Option, Ok}
 use Rattle.std.proofs.Common.{sym, ap, ◌∙◌, arith, lt-ltb, le-ltb, eq-eqb, ne_eqb, ltb-false}
+use Rattle.std.proofs.lemmas.Bool.{false≢true, eqb-true}
 use Rattle.std.proofs.Math.Logic.{⊎_elim}
 use Rattle.std.proofs.Math.ListN.{length}
 use Rattle.std.proofs.Math.Seq.{length-take-le}
@@ -14,29 +15,36 @@ use Rattle.lines.specs.Command as commands
 use Rattle.lines.specs.Reads.{told, laid}
 use Rattle.lines.specs.Steps.{Plainly}
 
-pub echo-reads : {command : Command} → command ≡ commands.Echo → Plainly command reads.Echo
+pub echo-reads : {command : Command} → command ≡ commands.Echo → Plainly command (Ok reads.Echo)
 unfolding Plainly
 echo-reads e before = record { read = sym (ap (told (length before)) e); buffer = sym (ap (laid before) e) }
 
-pub given-empty : (text : List ℕ) → length text ≡ 0 → given text ≡ commands.Echo
+pub given-empty : (text : List ℕ) → true ≡ eqb (length text) 0 → given text ≡ commands.Echo
 unfolding given
 given-empty [] e = refl
-given-empty (b ∷ l) e = absurd (omega arith)
+given-empty (b ∷ l) e = absurd (let z : length (b ∷ l) ≡ 0 = eqb-true _ _ (sym e) in omega arith)
 
 pub given-hash : (text : List ℕ) → get_or text 0 0 ≡ 35 → given text ≡ commands.Echo
 unfolding given
 given-hash [] e = refl
 given-hash (b ∷ l) e = rw (eq-eqb b 35 e)
 
-pub given-words : (text : List ℕ) → (length text ≡ 0 → ⊥) → (get_or text 0 0 ≡ 35 → ⊥) → given text ≡ command_of (words text)
-unfolding given
-given-words [] n h = absurd (n refl)
-given-words (b ∷ l) n h = rw (ne_eqb b 35 h)
+module _ (text : List ℕ) (n : false ≡ eqb (length text) 0) (h : get_or text 0 0 ≡ 35 → ⊥) where
+  given-words : given text ≡ command_of (words text)
+  unfolding given
+  given-words = by text n h
+    where
+      by : (t : List ℕ) → false ≡ eqb (length t) 0 → (get_or t 0 0 ≡ 35 → ⊥) → given t ≡ command_of (words t)
+      by [] m k = absurd (false≢true m)
+      by (b ∷ l) m k = rw (ne_eqb b 35 k)
 
-pub given-called : (text word : List ℕ) (ws : List (List ℕ)) (name : Name) → (length text ≡ 0 → ⊥) → (get_or text 0 0 ≡ 35 → ⊥) → words text ≡ word ∷ ws → name ≡ name_of word
-    → given text ≡ called name ws
-unfolding command_of
-given-called text word ws name n h e f = given-words text n h ∙ ap command_of e ∙ ap (λ (x : Name). called x ws) (sym f)
+  pub given-blank : words text ≡ [] → given text ≡ commands.Wrong faults.Blank
+  unfolding command_of
+  given-blank e = given-words ∙ ap command_of e
+
+  pub given-called : {word : List ℕ} {ws : List (List ℕ)} (name : Option Name) → words text ≡ word ∷ ws → name ≡ name_of word → given text ≡ called name ws
+  unfolding command_of
+  given-called {word} {ws} name e f = given-words ∙ ap command_of e ∙ ap (λ (x : Option Name). called x ws) (sym f)
 
 module _ (line : List ℕ) where
   pub text-within : text_length line ≤ length line

@@ -17,13 +17,12 @@ use Rattle.laying.specs.declared.lay.Laid.{Laid}
 use Rattle.laying.specs.Laying.{Laying, LaidOut}
 use Rattle.game.specs.declared.state.Game.{Game}
 use Rattle.game.specs.declared.clock.Clock.{Clock}
-use Rattle.game.specs.declared.calls.Ticked.{Ticked}
 use Rattle.game.specs.Clock.{clock_of, game_of}
 use Rattle.game.specs.View.{view_of, TrueState, RoomIn}
 use Rattle.game.specs.Promise.{CalledAlone, Ticks}
 use Rattle.playing.specs.declared.stone.Turn.{Turn}
 use Rattle.playing.specs.Promise.{CalledTrue}
-use Rattle.playing.specs.Turn.{Tested}
+use Rattle.playing.specs.Turn.{Granted}
 use Rattle.playing.specs.After.{Moving, Moved}
 use Rattle.playing.specs.Laws.Stone.{stone-moving, stone-called}
 use Rattle.replaying.specs.Replay.{entry, EntersAlone}
@@ -167,25 +166,25 @@ pub board-true : (b : Board) (k : Clock) → TrueState (game_of b k) → TrueBoa
 unfolding game_of
 board-true b k is = is.board
 
-module _ (b : Board) (k : Clock) (kind : ℕ) (its : kind ≡ 0) (bytes : List ℕ) (row column : ℕ) (t : Turn) (bytes' : List ℕ) (tested : Tested (game_of b k) bytes row column t bytes') where
-  pub stone-refused : t.answer ≢ 0 → Enters (game_of b k) kind bytes row column t.answer (game_of b k) bytes'
-  stone-refused n = enters-stone (game_of b k) kind bytes row column its (tested.refused n)
+module _ (b : Board) (k : Clock) (kind : ℕ) (its : kind ≡ 0) (bytes : List ℕ) (row column : ℕ) (bytes' : List ℕ) where
+  pub stone-refused : {answer : ℕ} → CalledTrue (stone (view_of (game_of b k)) bytes row column) (game_of b k) bytes answer (game_of b k) bytes'
+      → Enters (game_of b k) kind bytes row column answer (game_of b k) bytes'
+  stone-refused = enters-stone (game_of b k) kind bytes row column its
 
-  module _ (zero' : t.answer ≡ 0) where
+  module _ (t : Turn) (granted : Granted (game_of b k) bytes row column t bytes') where
     pub stone-laying : Laying b t.point t.mover k.flags
     unfolding game_of
-    stone-laying = (tested.granted zero').laying
+    stone-laying = granted.laying
 
     module _ (is : TrueState (game_of b k)) (laid : Laid) (out : LaidOut b t.point t.mover k.flags laid) where
       pub laid-moving : Moving k laid.ko
       unfolding clock_of game_of
-      laid-moving = stone-moving (game_of b k) bytes row column is t bytes' (tested.granted zero') laid out
+      laid-moving = stone-moving (game_of b k) bytes row column is t bytes' granted laid out
 
       pub stone-entered :
-          RoomIn (game_of b k) (length bytes) → (now : Ticked) → Moved k t.records laid.taken laid.lost laid.ko now
-          → Enters (game_of b k) kind bytes row column now.answer (game_of laid.board now.clock) bytes'
-      unfolding clock_of game_of number
+          RoomIn (game_of b k) (length bytes) → (now : Clock) → Moved k t.records laid.taken laid.lost laid.ko now
+          → Enters (game_of b k) kind bytes row column 0 (game_of laid.board now) bytes'
+      unfolding clock_of game_of
       stone-entered room now moved =
           enters-stone (game_of b k) kind bytes row column its
-          (subst (λ (a : ℕ). CalledTrue (stone (view_of (game_of b k)) bytes row column) (game_of b k) bytes a (game_of laid.board now.clock) bytes') (sym moved.answer)
-          (stone-called (game_of b k) bytes row column is t bytes' (tested.granted zero') laid out now moved room))
+          (stone-called (game_of b k) bytes row column is t bytes' granted laid out now moved room)

@@ -1,10 +1,10 @@
 -- Laws of the facts: a ko point is a number below that of none, and two answers that meet the promise are the same.
-use Rattle.std.specs.Prelude.{◌≡◌, refl, Bool, true, false, cond, ℕ, ◌<◌, eqb}
+use Rattle.std.specs.Prelude.{◌≡◌, refl, Bool, true, false, cond, ℕ, ◌<◌, eqb, Option, None, Some}
 use Rattle.std.proofs.Common.{sym, ap, ◌∙◌, ⊎_elim, arith, eqb-true}
-use Rattle.std.proofs.Math.Option.{Option, none, some, none-ne-some}
+use Rattle.std.proofs.lemmas.Option.{none-some}
 use Rattle.rules.proofs.Laws.Lists.{not-both, not-no, decided, below_or_not, both_ways, same_answer}
 use Rattle.board.specs.Laws.Board.{area-fits}
-use Rattle.points.specs.Place.{place_of, Within}
+use Rattle.points.specs.Place.{Within}
 use Rattle.game.specs.declared.state.Game.{Game}
 use Rattle.game.specs.declared.asks.Facts as asks
 use Rattle.game.specs.View.{no_point, ko_of, TrueState}
@@ -12,19 +12,19 @@ use Rattle.game.specs.Asks as asked
 use Rattle.reporting.specs.declared.facts.Facts.{Facts}
 use Rattle.reporting.specs.Facts.{ko_number, Asked}
 
-within : {n : ℕ} (o : Option ℕ) → ((p : ℕ) → o ≡ some p → p < n) → Within n o
-within none f = tt
-within (some p) f = f p refl
+within : {n : ℕ} (o : Option ℕ) → ((p : ℕ) → o ≡ Some p → p < n) → Within n o
+within None f = tt
+within (Some p) f = f p refl
 
-pub ko-within : (g : Game) (f : asks.Facts) → asked.Asked g f → Within no_point (place_of f.ko)
+pub ko-within : (g : Game) (f : asks.Facts) → asked.Asked g f → Within no_point f.ko
 unfolding asked.no_facts
 ko-within g f a =
-    within (place_of f.ko) (λ p at.
+    within f.ko (λ p at.
     ⊎_elim
     (λ l. l)
     (λ high.
     let untrue : ¬ TrueState g = λ t. let on = t.game.ko_on p (sym (a.told t).ko ∙ at) in let few = area-fits t.game.size in omega arith in
-    absurd (none-ne-some p (sym (ap (λ (x : asks.Facts). place_of x.ko) (a.damaged untrue)) ∙ at)))
+    absurd (none-some p (sym (ap (λ (x : asks.Facts). x.ko) (a.damaged untrue)) ∙ at)))
     (below_or_not p no_point))
 
 -- the number that the state keeps for the ko point is the one that is told
@@ -32,8 +32,8 @@ pub ko-told : (x : ℕ) (o : Option ℕ) → ko_of x ≡ o → x ≡ ko_number o
 unfolding ko_of
 ko-told x o e =
     ⊎_elim
-    (λ (y : eqb x no_point ≡ true). eqb-true x no_point y ∙ sym (ap (λ (t : Bool). ko_number (cond t none (some x))) y))
-    (λ (f : eqb x no_point ≡ false). sym (ap (λ (t : Bool). ko_number (cond t none (some x))) f))
+    (λ (y : eqb x no_point ≡ true). eqb-true x no_point y ∙ sym (ap (λ (t : Bool). ko_number (cond t None (Some x))) y))
+    (λ (f : eqb x no_point ≡ false). sym (ap (λ (t : Bool). ko_number (cond t None (Some x))) f))
     (decided (eqb x no_point))
     ∙ ap ko_number e
 

@@ -1,11 +1,10 @@
 -- Laws of counting: lists with no repeats, the pigeonhole, counts by a test, and from these how many chains can stand, over any graph.
-use Rattle.std.specs.Prelude.{◌≡◌, refl, Bool, true, false, not, ◌&&◌, ◌||◌, ◌≢◌, ℕ, zero, suc, ◌+◌, ◌*◌, ◌≤◌, eqb, length}
+use Rattle.std.specs.Prelude.{◌≡◌, refl, Bool, true, false, not, ◌&&◌, ◌||◌, ◌≢◌, ℕ, zero, suc, ◌+◌, ◌*◌, ◌≤◌, eqb, length, Option, None, Some}
 use Rattle.std.proofs.Common.{sym, ap, ◌∙◌, subst, ⊎_elim, zero-le, le_trans, arith, length-append, eq-eqb, ne_eqb}
 use mathlib.Core.List.Memᴰ
 use mathlib.Core.List.Memᴰ.{head}
 use mathlib.Core.List.Memᴰ.{tail}
 use mathlib.Core.List.{List, [], ◌∷◌, ◌++◌, map, Memᴰ}
-use Rattle.std.proofs.Math.Option.{Option, none, some}
 use Rattle.std.proofs.lemmas.Bool.{eqb-false, not-true}
 use Rattle.rules.specs.Lists.{tabulate, any, count, pick, present, below, Distinct}
 use Rattle.rules.proofs.Laws.Lists.{and_left, and_right, and_both, not-both, not_yes, decided, equal_or_not, any_some, any-no, pick-mem, mem-pick, present-mem, from-least}
@@ -19,14 +18,14 @@ module _ {A : Type 0} where
       ⊎_elim (λ e. rw e (λ m. new (pick-mem f xs m).0, pick-distinct f xs d)) (λ e. rw e (pick-distinct f xs d)) (decided (f x))
 
 -- what f makes of a list has no repeats, if it tells keys apart of which the list has no repeats
-module _ {A B : Type 0} (f : A → Option B) (key : A → ℕ) (tells : (x y : A) (b : B) → f x ≡ some b → f y ≡ some b → key x ≡ key y) where
+module _ {A B : Type 0} (f : A → Option B) (key : A → ℕ) (tells : (x y : A) (b : B) → f x ≡ Some b → f y ≡ Some b → key x ≡ key y) where
   pub present-distinct : (xs : List A) → Distinct (map key xs) → Distinct (present (map f xs))
   present-distinct [] d = tt
   present-distinct (x ∷ xs) (new, d) = first (f x) refl (present-distinct xs d)
     where
       first : (o : Option B) → f x ≡ o → Distinct (present (map f xs)) → Distinct (present (o ∷ map f xs))
-      first none e rest = rest
-      first (some b) e rest =
+      first None e rest = rest
+      first (Some b) e rest =
           (λ m. let (y, n, e') = Memᴰ.of_map f xs (present-mem (map f xs) m) in new (Memᴰ.cast (tells x y b e e') (Memᴰ.map key n)), rest)
 
 from-distinct : (i n : ℕ) → Distinct (tabulate (λ j. j) i n)

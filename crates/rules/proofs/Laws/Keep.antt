@@ -1,12 +1,12 @@
 -- Every accepted call keeps a game true. For a stone: the colours are true again, one stone more was put, and what is missing is held.
-use Rattle.std.specs.Prelude.{◌≡◌, Bool, true, false, ◌&&◌, ◌≢◌, ◌⊎◌, ℕ, ◌+◌, ◌≤◌, ◌<◌, leb, length, set}
+use Rattle.std.specs.Prelude.{◌≡◌, Bool, true, false, ◌&&◌, ◌≢◌, ◌⊎◌, ℕ, ◌+◌, ◌≤◌, ◌<◌, leb, length, set, Some}
 use Rattle.std.proofs.Math.Path.{refl, ap, subst}
 use Rattle.std.proofs.Common.{sym, ◌∙◌, true≢false}
 use Rattle.std.proofs.Math.Bool.{not}
 use mathlib.Core.List.Memᴰ.{head}
 use mathlib.Core.List.{List, [], ◌∷◌, Memᴰ}
 use Rattle.std.proofs.Math.Logic.{inl, inr, ⊎_elim}
-use Rattle.std.proofs.Math.Option.{some, some-injective, none-ne-some}
+use Rattle.std.proofs.lemmas.Option.{same_Some, none-some}
 use native.Mathlib.Omega.{arith}
 use Rattle.std.proofs.Math.Dec.{eqb}
 use Rattle.std.proofs.Math.ListN.{get_or, length-set}
@@ -55,7 +55,7 @@ module _ (g : Game) (is : TrueGame g) where
         board = is.board;
         mover = other-player g.turn is.mover;
         pauses = unpaused yes';
-        ko_on = λ k e. absurd (none-ne-some k e);
+        ko_on = λ k e. absurd (none-some k e);
         named = is.named;
         limited = is.limited;
         handicapped = is.handicapped;
@@ -75,7 +75,7 @@ module _ (g : Game) (is : TrueGame g) where
         mover = is.mover;
         pauses = is.pauses;
         ko_on = is.ko_on;
-        named = λ c e. subst Player (some-injective player c e) names;
+        named = λ c e. subst Player (same_Some player c e) names;
         limited = is.limited;
         handicapped = is.handicapped;
         black_kept = is.black_kept;
@@ -109,11 +109,11 @@ module _ (g : Game) (is : TrueGame g) where
 -- ---- Stone
 
 -- the one element comes from the list
-sole_of-mem : (xs : List ℕ) (k : ℕ) → sole_of xs ≡ some k → Memᴰ k xs
+sole_of-mem : (xs : List ℕ) (k : ℕ) → sole_of xs ≡ Some k → Memᴰ k xs
 unfolding sole_of
-sole_of-mem [] k e = absurd (none-ne-some k e)
-sole_of-mem (x ∷ []) k e = head (sym (some-injective x k e))
-sole_of-mem (x ∷ y ∷ xs) k e = absurd (none-ne-some k e)
+sole_of-mem [] k e = absurd (none-some k e)
+sole_of-mem (x ∷ []) k e = head (sym (same_Some x k e))
+sole_of-mem (x ∷ y ∷ xs) k e = absurd (none-some k e)
 
 -- the player to move is one of two
 one_of_two : (own : ℕ) → Player own → one_if own black + one_if own white ≡ 1

@@ -1,11 +1,11 @@
 -- Laws of Lists: what a test over a list says of its elements, and what stands at each place of a made list.
-use Rattle.std.specs.Prelude.{◌≡◌, refl, Bool, true, false, cond, not, ◌&&◌, ◌||◌, ◌≢◌, ◌⊎◌, ℕ, zero, suc, ◌+◌, ◌≤◌, ◌<◌, eqb, ltb, length, get_or, set, replicate}
+use Rattle.std.specs.Prelude.{◌≡◌, refl, Bool, true, false, cond, not, ◌&&◌, ◌||◌, ◌≢◌, ◌⊎◌, ℕ, zero, suc, ◌+◌, ◌≤◌, ◌<◌, eqb, ltb, length, get_or, set, replicate, Option, None, Some}
 use Rattle.std.proofs.Common.{sym, ap, ap₂, ◌∙◌, true≢false, inl, inr, ⊎_elim, zero-le, suc-le-suc, add-zero, zero-add, add-suc, suc-add, le_refl, le_trans, le_of_suc-le-suc, not-suc-le-zero, arith, get_or-set_same, get_or-set_other, eqb-true, eq-eqb, ne_eqb, ltb-true, ltb-false}
 use Rattle.std.proofs.lemmas.Bool.{false≢true, eqb-false}
 use mathlib.Core.List.Memᴰ
 use mathlib.Core.List.{List, [], ◌∷◌, ◌++◌, Memᴰ}
 use Rattle.std.proofs.Math.Logic.{⊎_map}
-use Rattle.std.proofs.Math.Option.{Option, none, some, some-injective, none-ne-some}
+use Rattle.std.proofs.lemmas.Option.{same_Some, none-some}
 use Rattle.std.proofs.Math.Nat.{le-suc}
 use Rattle.rules.specs.Lists.{tabulate, any, all, count, pick, present, below, same, has}
 
@@ -252,27 +252,27 @@ count-not-replicate (suc n) = let h = count-not-replicate n in omega arith
 
 module _ {A : Type 0} where
   -- a test before an option that is there was passed
-  pub cond-some : (t : Bool) (o : Option A) {x : A} → cond t o none ≡ some x → (t ≡ true) × (o ≡ some x)
+  pub cond-some : (t : Bool) (o : Option A) {x : A} → cond t o None ≡ Some x → (t ≡ true) × (o ≡ Some x)
   cond-some true o e = (refl, e)
-  cond-some false o {x} e = absurd (none-ne-some x e)
+  cond-some false o {x} e = absurd (none-some x e)
 
-  pub mem-present : (os : List (Option A)) {x : A} → Memᴰ (some x) os → Memᴰ x (present os)
+  pub mem-present : (os : List (Option A)) {x : A} → Memᴰ (Some x) os → Memᴰ x (present os)
   mem-present [] m = absurd (Memᴰ.not-nil m)
-  mem-present (none ∷ os) {x} m =
-      ⊎_elim (λ e. absurd (none-ne-some x (sym e))) (λ t. mem-present os t) (Memᴰ.cases_cons m)
-  mem-present (some y ∷ os) {x} m =
-      ⊎_elim (λ e. Memᴰ.head (some-injective x y e)) (λ t. Memᴰ.tail (mem-present os t)) (Memᴰ.cases_cons m)
+  mem-present (None ∷ os) {x} m =
+      ⊎_elim (λ e. absurd (none-some x (sym e))) (λ t. mem-present os t) (Memᴰ.cases_cons m)
+  mem-present (Some y ∷ os) {x} m =
+      ⊎_elim (λ e. Memᴰ.head (same_Some x y e)) (λ t. Memᴰ.tail (mem-present os t)) (Memᴰ.cases_cons m)
 
-  pub present-mem : (os : List (Option A)) {x : A} → Memᴰ x (present os) → Memᴰ (some x) os
+  pub present-mem : (os : List (Option A)) {x : A} → Memᴰ x (present os) → Memᴰ (Some x) os
   present-mem [] m = absurd (Memᴰ.not-nil m)
-  present-mem (none ∷ os) m = Memᴰ.tail (present-mem os m)
-  present-mem (some y ∷ os) m =
-      ⊎_elim (λ e. Memᴰ.head (ap {B = Option A} some e)) (λ t. Memᴰ.tail (present-mem os t)) (Memᴰ.cases_cons m)
+  present-mem (None ∷ os) m = Memᴰ.tail (present-mem os m)
+  present-mem (Some y ∷ os) m =
+      ⊎_elim (λ e. Memᴰ.head (ap {B = Option A} Some e)) (λ t. Memᴰ.tail (present-mem os t)) (Memᴰ.cases_cons m)
 
   pub present-fewer : (os : List (Option A)) → length (present os) ≤ length os
   present-fewer [] = le_refl 0
-  present-fewer (none ∷ os) = le_trans (present-fewer os) (le-suc (length os))
-  present-fewer (some x ∷ os) = suc-le-suc (present-fewer os)
+  present-fewer (None ∷ os) = le_trans (present-fewer os) (le-suc (length os))
+  present-fewer (Some x ∷ os) = suc-le-suc (present-fewer os)
 
 -- ---- Membership of numbers, by a test
 

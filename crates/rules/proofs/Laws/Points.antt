@@ -1,13 +1,13 @@
 -- Laws of Points: an index and its row and column, and that `neighbours` lists exactly the points that are Adjacent. Every
 -- direction is one case of `towards-step`, which says where a step along rows and columns ends.
-use Rattle.std.specs.Prelude.{◌≡◌, refl, ◌⊎◌, ◌↔◌, ℕ, zero, suc, ◌+◌, ◌-◌, ◌*◌, ◌≤◌, ◌<◌, ltb, length}
+use Rattle.std.specs.Prelude.{◌≡◌, refl, ◌⊎◌, ◌↔◌, ℕ, zero, suc, ◌+◌, ◌-◌, ◌*◌, ◌≤◌, ◌<◌, ltb, length, Option, None, Some}
 use Rattle.std.proofs.Common.{sym, ap, ap₂, ◌∙◌, subst, mul-zero, not-suc-le-zero, zero-lt-suc, mod-lt, div-add-mod', div-lt_iff_lt-mul, ltb-true, lt-ltb}
 use mathlib.Core.List.Memᴰ
 use mathlib.Core.List.Memᴰ.{head}
 use mathlib.Core.List.Memᴰ.{tail}
 use mathlib.Core.List.{List, [], ◌∷◌, Memᴰ}
 use Rattle.std.proofs.Math.Logic.{inl, inr, ⊎_elim, ⊎_map, ⊎_swap}
-use Rattle.std.proofs.Math.Option.{Option, none, some, some-injective, none-ne-some}
+use Rattle.std.proofs.lemmas.Option.{same_Some, none-some}
 use native.Mathlib.Omega.{arith}
 use Rattle.std.proofs.Math.Arith.{digits_lt, digits_div, digits_mod}
 use Rattle.rules.specs.Lists.{has, Distinct}
@@ -67,23 +67,23 @@ offset forth = 2
 unfoldable pub Moved : Shift → ℕ → ℕ → Type 0
 Moved d x y = x + offset d ≡ y + 1
 
-pub shifted-moved : (d : Shift) (n x y : ℕ) → x < n → shifted d n x ≡ some y → Moved d x y × (y < n)
+pub shifted-moved : (d : Shift) (n x y : ℕ) → x < n → shifted d n x ≡ Some y → Moved d x y × (y < n)
 unfolding shifted Moved offset
 shifted-moved back n x y l e =
-    let (t, s) = cond-some (ltb 0 x) (some (x - 1)) e in
+    let (t, s) = cond-some (ltb 0 x) (Some (x - 1)) e in
     let a : 0 < x = ltb-true 0 x t in
-    let b : x - 1 ≡ y = some-injective (x - 1) y s in
+    let b : x - 1 ≡ y = same_Some (x - 1) y s in
     (omega arith, omega arith)
 shifted-moved stay n x y l e =
-    let b : x ≡ y = some-injective x y e in
+    let b : x ≡ y = same_Some x y e in
     (omega arith, omega arith)
 shifted-moved forth n x y l e =
-    let (t, s) = cond-some (ltb (x + 1) n) (some (x + 1)) e in
+    let (t, s) = cond-some (ltb (x + 1) n) (Some (x + 1)) e in
     let a : x + 1 < n = ltb-true (x + 1) n t in
-    let b : x + 1 ≡ y = some-injective (x + 1) y s in
+    let b : x + 1 ≡ y = same_Some (x + 1) y s in
     (omega arith, omega arith)
 
-pub moved-shifted : (d : Shift) (n x y : ℕ) → y < n → Moved d x y → shifted d n x ≡ some y
+pub moved-shifted : (d : Shift) (n x y : ℕ) → y < n → Moved d x y → shifted d n x ≡ Some y
 unfolding shifted Moved offset
 moved-shifted back n x y l m =
     let a : 0 < x = omega arith in
@@ -91,7 +91,7 @@ moved-shifted back n x y l m =
     rw (lt-ltb 0 x a, b)
 moved-shifted stay n x y l m =
     let b : x ≡ y = omega arith in
-    ap {B = Option ℕ} some b
+    ap {B = Option ℕ} Some b
 moved-shifted forth n x y l m =
     let b : x + 1 ≡ y = omega arith in
     rw (b, lt-ltb y n l)
@@ -105,12 +105,12 @@ pub record Step (h w p q : ℕ) (dr dc : Shift) : Type 0 where
   pub rows : Moved dr (row w p) (row w q)
   pub columns : Moved dc (column w p) (column w q)
 
-joined-some : (w q : ℕ) (r c : Option ℕ) → joined w r c ≡ some q → (i j : ℕ) × (r ≡ some i) × (c ≡ some j) × (index w i j ≡ q)
-joined-some w q none c e = absurd (none-ne-some q e)
-joined-some w q (some i) none e = absurd (none-ne-some q e)
-joined-some w q (some i) (some j) e = (i, j, refl, refl, some-injective (index w i j) q e)
+joined-some : (w q : ℕ) (r c : Option ℕ) → joined w r c ≡ Some q → (i j : ℕ) × (r ≡ Some i) × (c ≡ Some j) × (index w i j ≡ q)
+joined-some w q None c e = absurd (none-some q e)
+joined-some w q (Some i) None e = absurd (none-some q e)
+joined-some w q (Some i) (Some j) e = (i, j, refl, refl, same_Some (index w i j) q e)
 
-pub towards-step : (h w p q : ℕ) (dr dc : Shift) → towards h w p dr dc ≡ some q → Step h w p q dr dc
+pub towards-step : (h w p q : ℕ) (dr dc : Shift) → towards h w p dr dc ≡ Some q → Step h w p q dr dc
 unfolding towards
 towards-step h w p q dr dc e =
     let (t, o) = cond-some (ltb p (area h w)) (joined w (shifted dr h (row w p)) (shifted dc w (column w p))) e in
@@ -125,7 +125,7 @@ towards-step h w p q dr dc e =
       columns = subst (λ (k : ℕ). Moved dc (column w p) k) (sym (column-index w i j<w) ∙ ap (column w) s) mc;
     }
 
-pub step-towards : (h w p q : ℕ) (dr dc : Shift) → Step h w p q dr dc → towards h w p dr dc ≡ some q
+pub step-towards : (h w p q : ℕ) (dr dc : Shift) → Step h w p q dr dc → towards h w p dr dc ≡ Some q
 unfolding towards
 step-towards h w p q dr dc s =
     let r = moved-shifted dr h (row w p) (row w q) (row_on h w q s.to) s.rows in

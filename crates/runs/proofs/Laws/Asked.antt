@@ -1,14 +1,11 @@
 -- Laws of questions: what is asked of alike games and boards is answered alike, to the last number.
-use Rattle.std.specs.Prelude.{◌≡◌, refl, Bool, List, ◌⊎◌, ℕ}
+use Rattle.std.specs.Prelude.{◌≡◌, refl, Bool, List, ◌⊎◌, ℕ, Result}
 use Rattle.std.proofs.Common.{sym, ap, ◌∙◌, subst, inl, inr, ⊎_elim}
-use Rattle.std.proofs.Math.Option.{none-ne-some, some-injective}
 use Rattle.rules.specs.Answers.{Answer, Accepted, number}
 use Rattle.rules.specs.Game as rules
 use Rattle.rules.specs.Calls.{Placement, check_answer}
 use Rattle.rules.proofs.Laws.Lists.{decided}
-use Rattle.points.specs.declared.coord.Place.{Place}
-use Rattle.points.specs.declared.coord.Place.TheVariants.{Off, At}
-use Rattle.points.specs.Place.{place_of}
+use Rattle.points.specs.declared.answers.Refusal.{Refusal}
 use Rattle.board.specs.declared.goban.Board.{Board}
 use Rattle.board.specs.True.{TrueBoard}
 use Rattle.vetting.specs.Answered as queries
@@ -18,10 +15,8 @@ use Rattle.listing.specs.Lists as listing
 use Rattle.listing.specs.Laws.Unique.{left_unique}
 use Rattle.game.specs.declared.state.Game.{Game}
 use Rattle.game.specs.declared.asks.Facts.{Facts}
-use Rattle.game.specs.declared.asks.Outcome.{Outcome}
-use Rattle.game.specs.declared.asks.Outcome.TheVariants.{Open, Named}
 use Rattle.game.specs.View.{view_of, TrueState}
-use Rattle.game.specs.Asks.{named_of, is_over, Told, Asked}
+use Rattle.game.specs.Asks.{is_over, Told, Asked}
 use Rattle.checking.specs.Promise.{Checked}
 use Rattle.runs.specs.Runs.{Desk, Sound}
 use Rattle.runs.specs.Alike.{Alike, AlikeDesks, placement_of, AlikeBoards}
@@ -31,18 +26,6 @@ use Rattle.runs.proofs.Laws.Decide.{sound-told}
 use Rattle.runs.proofs.Laws.Alike.{alike-back, alike-view, alike-true, sound-alike, desks-back}
 
 -- ---- The facts of a game
-
-place_same : (x y : Place) → place_of x ≡ place_of y → x ≡ y
-place_same Off Off e = refl
-place_same Off (At q) e = absurd (none-ne-some q e)
-place_same (At p) Off e = absurd (none-ne-some p (sym e))
-place_same (At p) (At q) e = ap At (some-injective p q e)
-
-outcome-same : (x y : Outcome) → named_of x ≡ named_of y → x ≡ y
-outcome-same Open Open e = refl
-outcome-same Open (Named c) e = absurd (none-ne-some c e)
-outcome-same (Named c) Open e = absurd (none-ne-some c (sym e))
-outcome-same (Named b) (Named c) e = ap Named (some-injective b c e)
 
 told_same : {g h : Game} {r r' : Facts} → view_of g ≡ view_of h → Told g r → Told h r' → r ≡ r'
 told_same {g} {h} {r} {r'} e p q =
@@ -59,8 +42,8 @@ told_same {g} {h} {r} {r'} e p q =
             black = (p.black_held ∙ ap (λ (v : rules.Game). v.black_held) e ∙ sym q.black_held) i;
             white = (p.white_held ∙ ap (λ (v : rules.Game). v.white_held) e ∙ sym q.white_held) i;
           };
-      ko = place_same r.ko r'.ko (p.ko ∙ ap (λ (v : rules.Game). v.ko_point) e ∙ sym q.ko) i;
-      outcome = outcome-same r.outcome r'.outcome (p.outcome ∙ ap (λ (v : rules.Game). v.outcome) e ∙ sym q.outcome) i;
+      ko = (p.ko ∙ ap (λ (v : rules.Game). v.ko_point) e ∙ sym q.ko) i;
+      outcome = (p.outcome ∙ ap (λ (v : rules.Game). v.outcome) e ∙ sym q.outcome) i;
       over = (p.over ∙ ap (λ (v : rules.Game). is_over v.outcome v.passes) e ∙ sym q.over) i;
       handicap = (p.handicap ∙ ap (λ (v : rules.Game). v.handicap) e ∙ sym q.handicap) i;
       accepted = (p.accepted ∙ ap (λ (v : rules.Game). v.accepted) e ∙ sym q.accepted) i;
@@ -147,12 +130,17 @@ module _ {b c : Board} (like : AlikeBoards b c) where
       (λ neither. p.damaged neither.0 ∙ sym (q.damaged neither.1))
       (board-cases like)
 
-  -- the number alone
+  -- the answer alone
   pub judged-alike :
-      (off : Placement → Bool) {a a' : ℕ} → queries.Judged b (off (placement_of b)) a → queries.Judged c (off (placement_of c)) a' → a ≡ a'
+      (off : Placement → Bool) {a a' : Result Unit Refusal} → queries.Judged b (off (placement_of b)) a → queries.Judged c (off (placement_of c)) a' → a ≡ a'
   judged-alike off p q =
-      query-alike off (λ n. n) (λ p. number Accepted) (record { damaged = p.damaged; beyond = p.beyond; accepted = p.accepted })
-      (record { damaged = q.damaged; beyond = q.beyond; accepted = q.accepted })
+      ⊎_elim
+      (λ both.
+      let (t, u, e) = both in
+      ⊎_elim (λ y. p.beyond t y ∙ sym (q.beyond u (ap off (sym e) ∙ y))) (λ n. p.accepted t n ∙ sym (q.accepted u (ap off (sym e) ∙ n)))
+      (decided (off (placement_of b))))
+      (λ neither. p.damaged neither.0 ∙ sym (q.damaged neither.1))
+      (board-cases like)
 
   -- a call that fills a lent buffer
   pub filling-alike :

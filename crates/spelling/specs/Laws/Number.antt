@@ -1,32 +1,21 @@
 -- Laws of Number: a number that is capped while it grows is the number capped.
-use Rattle.std.specs.Prelude.{◌≡◌, refl, Bool, cond, ◌&&◌, length, get_or}
+use Rattle.std.specs.Prelude.{◌≡◌, refl, Bool, cond, ◌&&◌, length, get_or, None, Some}
 use Rattle.std.proofs.Math.Path.{sym, ap}
-use Rattle.std.proofs.Common.{◌∙◌, add-one, drop-cons, le-leb}
+use Rattle.std.proofs.Common.{◌∙◌, add-one, drop-cons}
 use Rattle.std.proofs.Math.Bool.{true, false}
 use mathlib.Core.List.{List, [], ◌∷◌}
-use Rattle.std.proofs.Math.Option.{none, some}
 use Prim.Native.Nat.{ℕ, ◌+◌, ◌≤◌, ◌<◌, min}
 use native.Mathlib.Omega.{arith}
 use Rattle.std.proofs.Math.ListN.{drop, drop_of_length-le}
-use Rattle.std.proofs.lemmas.Bool.{lt-leb}
+use Rattle.std.specs.Char.{is_ascii_digit}
 use Rattle.rules.specs.Lists.{all}
-use Rattle.spelling.specs.declared.number.Number.TheVariants.{Is, Not}
-use Rattle.spelling.specs.Number.{first_digit, last_digit, digit, grown, value, number_of}
+use Rattle.spelling.specs.Number.{digit, grown, value, number_of}
 use Rattle.spelling.specs.Steps.{most, numeral}
 
--- ---- Digits
-
-pub digit-yes : (b : ℕ) → first_digit ≤ b → b ≤ last_digit → digit b ≡ true
+-- the library's word for a digit
+pub digit-is : (b : ℕ) {t : Bool} → t ≡ is_ascii_digit b → digit b ≡ t
 unfolding digit
-digit-yes b l h = simp (le-leb _ _ l, le-leb _ _ h)
-
-pub digit_low : (b : ℕ) → b < first_digit → digit b ≡ false
-unfolding digit
-digit_low b l = simp (lt-leb _ _ l)
-
-pub digit-high : (b : ℕ) → first_digit ≤ b → last_digit < b → digit b ≡ false
-unfolding digit
-digit-high b l h = simp (le-leb _ _ l, lt-leb _ _ h)
+digit-is b e = sym e
 
 -- ---- Numbers above the cap are one number
 
@@ -70,19 +59,19 @@ module _ (word : List ℕ) where
       }
 
   -- a byte that is no digit
-  pub growing-not : {number at : ℕ} → Growing number at → at < length word → digit (get_or word at 0) ≡ false → Not ≡ numeral (number_of word)
+  pub growing-not : {number at : ℕ} → Growing number at → at < length word → digit (get_or word at 0) ≡ false → None ≡ numeral (number_of word)
   unfolding number_of numeral
   growing-not {number} {at} g l no' =
       let bad : all digit word ≡ false = g.digits ∙ ap (all digit) (here at l) ∙ ap (λ (t : Bool). t && all digit (drop (at + 1) word)) no' in
-      sym (ap (λ (t : Bool). numeral (cond t (some (value 0 word)) none)) bad)
+      sym (ap (λ (t : Bool). numeral (cond t (Some (value 0 word)) None)) bad)
 
-  pub growing-whole : {number at : ℕ} → Growing number at → length word ≤ at → Is number ≡ numeral (number_of word)
+  pub growing-whole : {number at : ℕ} → Growing number at → length word ≤ at → Some number ≡ numeral (number_of word)
   unfolding number_of numeral
   growing-whole {number} {at} g l =
       let none_left : drop at word ≡ [] = drop_of_length-le word {i = at} l in
       let good : all digit word ≡ true = g.digits ∙ ap (all digit) none_left in
       let same : number ≡ min (value 0 word) most = min-small number g.small ∙ sym (g.written ∙ ap (λ (r : List ℕ). min (value number r) most) none_left) in
-      ap Is same ∙ sym (ap (λ (t : Bool). numeral (cond t (some (value 0 word)) none)) good)
+      ap Some same ∙ sym (ap (λ (t : Bool). numeral (cond t (Some (value 0 word)) None)) good)
     where
       min-small : (n : ℕ) → n ≤ most → n ≡ min n most
       min-small n h = omega arith

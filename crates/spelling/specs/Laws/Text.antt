@@ -1,19 +1,14 @@
--- Laws of Text: one byte more is skipped, or goes on with a word.
-use Rattle.std.specs.Prelude.{◌≡◌, refl, Bool, eqb, length}
-use Rattle.std.proofs.Math.Path.{sym, ap, ap₂}
-use Rattle.std.proofs.Common.{◌∙◌, add-one, drop-cons, get_or-drop}
-use Rattle.std.proofs.Math.Bool.{true, false}
-use mathlib.Core.List.{List, [], ◌∷◌, ◌++◌, append-nil}
-use Prim.Native.Nat.{ℕ, suc, ◌+◌, ◌-◌, ◌≤◌, ◌<◌}
-use native.Mathlib.Omega.{arith}
-use Rattle.std.proofs.Math.Logic.{⊎_elim}
-use borrow.Author.Tests.{eq-eqb, ne_eqb}
-use Rattle.rules.proofs.Laws.Lists.{equal_or_not}
-use Rattle.std.proofs.Math.ListN.{get_or, take, drop, drop_of_length-le, length-drop}
-use Rattle.std.proofs.Math.Seq.{take-suc, append_snoc}
-use Rattle.spelling.specs.Text.{blank, word, words_from, words}
-use Rattle.spelling.specs.declared.words.Word.{Word}
-use Rattle.spelling.specs.Steps.{Skipped, Ended, Parted, part, ended}
+-- Laws of Text: the words by the first byte, and by the first word.
+use Rattle.std.specs.Prelude.{◌≡◌, refl, Bool, true, false, cond, not, ◌&&◌, List, [], ◌∷◌, ℕ, suc, ◌+◌, ◌-◌, eqb, length, get_or, take, drop, Option, None, Some, MatchOption}
+use Rattle.std.specs.List.{prefix_len}
+use Rattle.std.specs.Option.{unwrap_or}
+use Rattle.std.specs.Cmp.Lexicographic.{pointwise}
+use Rattle.std.proofs.Common.{Bor, sym, ap, ap₂, ◌∙◌, subst, ⊎_elim, arith, one-add}
+use Rattle.std.proofs.lemmas.List.{take_rest, drop_all}
+use Rattle.std.proofs.Math.Seq.{drop-cons, take-length}
+use Rattle.rules.proofs.Laws.Lists.{decided}
+use Rattle.spelling.specs.Text.{blank, carriage_return, text_length, text_of, word, words_from, words}
+use Rattle.spelling.specs.Steps.{blanks, letters}
 
 -- ---- By the first byte
 
@@ -26,156 +21,126 @@ words_inside b l e = rw (e, words_from)
 pub words-begin : (b : ℕ) (l : List ℕ) → blank b ≡ false → words_from true (b ∷ l) ≡ word (b ∷ l) ∷ words_from false l
 words-begin b l e = rw (e, words_from)
 
-word_blank : (b : ℕ) (l : List ℕ) → blank b ≡ true → word (b ∷ l) ≡ []
-word_blank b l e = rw (e, word)
+word_ends : (b : ℕ) (l : List ℕ) → blank b ≡ true → word (b ∷ l) ≡ []
+word_ends b l e = rw (e, word)
 
 word_more : (b : ℕ) (l : List ℕ) → blank b ≡ false → word (b ∷ l) ≡ b ∷ word l
 word_more b l e = rw (e, word)
 
-module _ (text : List ℕ) where
-  -- the text from a place on, by its first byte
-  here : (at : ℕ) → at < length text → drop at text ≡ get_or text at 0 ∷ drop (at + 1) text
-  here at l = rw add-one (drop-cons text at 0 l)
+module _ (b : ℕ) (l : List ℕ) where
+  one_more : (p : ℕ → Bool) → p b ≡ true → prefix_len p (b ∷ l) ≡ suc (prefix_len p l)
+  one_more p t = ap (λ (c : Bool). cond c (1 + prefix_len p l) 0) t ∙ one-add (prefix_len p l)
 
-  -- ---- Skipping blanks
+  no_more : (p : ℕ → Bool) → p b ≡ false → prefix_len p (b ∷ l) ≡ 0
+  no_more p t = ap (λ (c : Bool). cond c (1 + prefix_len p l) 0) t
 
-  -- only blanks lie between
-  pub record Skipping (from at : ℕ) : Type 0 where
-    pub onward : from ≤ at
-    pub within : at ≤ length text
-    pub kept : words (drop from text) ≡ words (drop at text)
+  blank_more : blank b ≡ true → blanks (b ∷ l) ≡ suc (blanks l)
+  blank_more t = one_more blank t
 
-  pub skipping-none : (from : ℕ) → from ≤ length text → Skipping from from
-  skipping-none from l = record { onward = omega arith; within = l; kept = refl }
+  blanks_end : blank b ≡ false → blanks (b ∷ l) ≡ 0
+  blanks_end t = no_more blank t
 
-  pub skipping-more : {from at : ℕ} → Skipping from at → at < length text → blank (get_or text at 0) ≡ true → Skipping from (at + 1)
-  unfolding words
-  skipping-more {from} {at} s l e =
-      record {
-        onward = omega (arith, s.onward);
-        within = omega arith;
-        kept = s.kept ∙ ap (words_from true) (here at l) ∙ words-blank true (get_or text at 0) (drop (at + 1) text) e;
-      }
+  letter_more : blank b ≡ false → letters (b ∷ l) ≡ suc (letters l)
+  letter_more t = one_more (λ c. not (blank c)) (ap not t)
 
-  pub skipped-here : {from at : ℕ} → Skipping from at → blank (get_or text at 0) ≡ false → Skipped text from at
-  skipped-here s e = record { onward = s.onward; within = s.within; kept = s.kept; stopped = λ l. e }
+  letters_end : blank b ≡ true → letters (b ∷ l) ≡ 0
+  letters_end t = no_more (λ c. not (blank c)) (ap not t)
 
-  pub skipped-all : {from at : ℕ} → Skipping from at → length text ≤ at → Skipped text from at
-  skipped-all s l = record { onward = s.onward; within = s.within; kept = s.kept; stopped = λ k. absurd (omega arith) }
+-- ---- By the first word
 
-  -- ---- Going through a word
+-- blanks before the words are passed over
+skipped : (l : List ℕ) → words_from true l ≡ words_from true (drop (blanks l) l)
+skipped [] = refl
+skipped (b ∷ l) =
+    ⊎_elim (λ t. words-blank true b l t ∙ skipped l ∙ ap (λ (n : ℕ). words_from true (drop n (b ∷ l))) (sym (blank_more b l t)))
+    (λ t. ap (λ (n : ℕ). words_from true (drop n (b ∷ l))) (sym (blanks_end b l t)))
+    (decided (blank b))
 
-  -- all before the place belongs to the word that begins at start
-  pub record Reading (start at : ℕ) : Type 0 where
-    pub onward : start < at
-    pub within : at ≤ length text
-    pub first : words (drop start text) ≡ (part text start at ++ word (drop at text)) ∷ words_from false (drop at text)
+-- the rest of a word is passed over
+behind : (l : List ℕ) → words_from false l ≡ words_from true (drop (letters l) l)
+behind [] = refl
+behind (b ∷ l) =
+    ⊎_elim (λ t. words-blank false b l t ∙ sym (words-blank true b l t) ∙ ap (λ (n : ℕ). words_from true (drop n (b ∷ l))) (sym (letters_end b l t)))
+    (λ t. words_inside b l t ∙ behind l ∙ ap (λ (n : ℕ). words_from true (drop n (b ∷ l))) (sym (letter_more b l t)))
+    (decided (blank b))
 
-  -- one byte more of a part
-  part-more : (start at : ℕ) → start ≤ at → at < length text → part text start (at + 1) ≡ part text start at ++ (get_or text at 0 ∷ [])
-  unfolding part
-  part-more start at s l =
-      let k : at + 1 - start ≡ suc (at - start) = omega arith in
-      let e : start + (at - start) ≡ at = omega arith in
-      ap (λ (n : ℕ). take n (drop start text)) k
-      ∙ take-suc (drop start text) (at - start) 0 (rw length-drop (omega arith))
-      ∙ ap (λ (x : ℕ). take (at - start) (drop start text) ++ (x ∷ [])) (get_or-drop start text (at - start) 0 ∙ ap (λ (n : ℕ). get_or text n 0) e)
+whole : (l : List ℕ) → word l ≡ take (letters l) l
+whole [] = refl
+whole (b ∷ l) =
+    ⊎_elim (λ t. word_ends b l t ∙ ap (λ (n : ℕ). take n (b ∷ l)) (sym (letters_end b l t)))
+    (λ t. word_more b l t ∙ ap (λ (w : List ℕ). b ∷ w) (whole l) ∙ ap (λ (n : ℕ). take n (b ∷ l)) (sym (letter_more b l t)))
+    (decided (blank b))
 
-  part_none : (start : ℕ) → part text start start ≡ []
-  unfolding part
-  part_none start = let z : start - start ≡ 0 = omega arith in ap (λ (n : ℕ). take n (drop start text)) z
+-- a text that begins with no blank begins with a word, if it has one
+begun : (l : List ℕ) → blanks l ≡ 0 → letters l ≡ 0 → l ≡ []
+begun [] e f = refl
+begun (b ∷ l) e f =
+    ⊎_elim (λ t. absurd (let z = blank_more b l t in omega arith)) (λ t. absurd (let z = letter_more b l t in omega arith)) (decided (blank b))
 
-  -- the word goes on with a byte that is no blank
-  word_on : (start at : ℕ) → start ≤ at → at < length text → blank (get_or text at 0) ≡ false
-      → part text start at ++ word (drop at text) ≡ part text start (at + 1) ++ word (drop (at + 1) text)
-  word_on start at s l e =
-      ap (λ (w : List ℕ). part text start at ++ w) (ap word (here at l) ∙ word_more (get_or text at 0) (drop (at + 1) text) e)
-      ∙ sym (append_snoc (part text start at) (get_or text at 0) (word (drop (at + 1) text)))
-      ∙ ap (λ (w : List ℕ). w ++ word (drop (at + 1) text)) (sym (part-more start at s l))
+first : (l : List ℕ) → blanks l ≡ 0 → (letters l ≡ 0 → ⊥) → words_from true l ≡ take (letters l) l ∷ words_from true (drop (letters l) l)
+first [] e n = absurd (n refl)
+first (b ∷ l) e n =
+    ⊎_elim (λ t. absurd (let z = blank_more b l t in omega arith))
+    (λ t. words-begin b l t
+    ∙ ap₂ {C = List (List ℕ)} (λ (w : List ℕ) (ws : List (List ℕ)). w ∷ ws) (whole (b ∷ l)) (sym (words_inside b l t) ∙ behind (b ∷ l)))
+    (decided (blank b))
 
-  pub reading-begin : (start : ℕ) → start < length text → blank (get_or text start 0) ≡ false → Reading start (start + 1)
-  unfolding words
-  reading-begin start l e =
-      record {
-        onward = omega arith;
-        within = omega arith;
-        first =
-            ap (words_from true) (here start l)
-            ∙ words-begin (get_or text start 0) (drop (start + 1) text) e
-            ∙ ap (λ (w : List ℕ). w ∷ words_from false (drop (start + 1) text))
-            (ap word (sym (here start l))
-            ∙ ap (λ (p : List ℕ). p ++ word (drop start text)) (sym (part_none start))
-            ∙ word_on start start (omega arith) l e);
-      }
+-- behind the blanks there are none
+fresh : (l : List ℕ) → blanks (drop (blanks l) l) ≡ 0
+fresh [] = refl
+fresh (b ∷ l) =
+    ⊎_elim (λ t. ap (λ (n : ℕ). blanks (drop n (b ∷ l))) (blank_more b l t) ∙ fresh l)
+    (λ t. ap (λ (n : ℕ). blanks (drop n (b ∷ l))) (blanks_end b l t) ∙ blanks_end b l t)
+    (decided (blank b))
 
-  pub reading-more : {start at : ℕ} → Reading start at → at < length text → blank (get_or text at 0) ≡ false → Reading start (at + 1)
-  reading-more {start} {at} r l e =
-      record {
-        onward = omega (arith, r.onward);
-        within = omega arith;
-        first =
-            r.first
-            ∙ ap₂ {C = List (List ℕ)} (λ (w : List ℕ) (ws : List (List ℕ)). w ∷ ws) (word_on start at (omega (arith, r.onward)) l e)
-            (ap (words_from false) (here at l) ∙ words_inside (get_or text at 0) (drop (at + 1) text) e);
-      }
+-- the text behind i blanks is cut behind the n bytes that are none
+module _ (text : List ℕ) (i n : ℕ) (e : i ≡ blanks text) (f : n ≡ letters (take (length text - i) (drop i text))) where
+  rest : List ℕ
+  rest = drop (blanks text) text
 
-  -- a blank ends the word
-  pub ended_here : {start at : ℕ} → Reading start at → at < length text → blank (get_or text at 0) ≡ true → Ended text start at
-  unfolding words
-  ended_here {start} {at} r l e =
-      record {
-        onward = r.onward;
-        within = r.within;
-        first =
-            r.first
-            ∙ ap₂ {C = List (List ℕ)} (λ (w : List ℕ) (ws : List (List ℕ)). w ∷ ws)
-            (ap (λ (w : List ℕ). part text start at ++ w) (ap word (here at l) ∙ word_blank (get_or text at 0) (drop (at + 1) text) e) ∙ append-nil (part text start at))
-            (ap (words_from false) (here at l)
-            ∙ words-blank false (get_or text at 0) (drop (at + 1) text) e
-            ∙ sym (words-blank true (get_or text at 0) (drop (at + 1) text) e)
-            ∙ ap (words_from true) (sym (here at l)));
-      }
+  its : take (length text - i) (drop i text) ≡ rest
+  unfolding rest
+  its = take_rest text i ∙ ap (λ (m : ℕ). drop m text) e
 
-  -- the text ends with the word
-  pub ended-all : {start at : ℕ} → Reading start at → length text ≤ at → Ended text start at
-  unfolding words
-  ended-all {start} {at} r l =
-      let none_left : drop at text ≡ [] = drop_of_length-le text {i = at} l in
-      record {
-        onward = r.onward;
-        within = r.within;
-        first =
-            r.first
-            ∙ ap₂ {C = List (List ℕ)} (λ (w : List ℕ) (ws : List (List ℕ)). w ∷ ws)
-            (ap (λ (w : List ℕ). part text start at ++ w) (ap word none_left) ∙ append-nil (part text start at))
-            (ap (words_from false) none_left ∙ ap (words_from true) (sym none_left));
-      }
+  cut : n ≡ letters rest
+  cut = f ∙ ap letters its
 
-  -- ---- The next word
+  pub words-none : n ≡ 0 → words text ≡ []
+  unfolding words rest
+  words-none z = skipped text ∙ ap (words_from true) (begun rest (fresh text) (sym cut ∙ z))
 
-  pub parted-none : {from start : ℕ} → Skipped text from start → start ≡ length text → Parted text from (record { start = start; end = start })
-  unfolding words
-  parted-none {from} {start} s e =
-      record {
-        onward = s.onward;
-        ordered = omega arith;
-        within = s.within;
-        missing = λ same. s.kept ∙ ap (words_from true) (drop_of_length-le text {i = start} (omega arith));
-        there = λ apart. absurd (apart refl);
-      }
+  pub words-some : (n ≡ 0 → ⊥) → words text ≡ take n (take (length text - i) (drop i text)) ∷ words (drop n (take (length text - i) (drop i text)))
+  unfolding words rest
+  words-some z =
+      subst (λ (r : List ℕ). words_from true text ≡ take n r ∷ words_from true (drop n r)) (sym its)
+      (subst (λ (m : ℕ). words_from true text ≡ take m rest ∷ words_from true (drop m rest)) (sym cut)
+      (skipped text ∙ first rest (fresh text) (λ k. z (cut ∙ k))))
 
-  pub parted-some : {from start end : ℕ} → Skipped text from start → Ended text start end → Parted text from (record { start = start; end = end })
-  parted-some {from} {start} {end} s w =
-      record {
-        onward = s.onward;
-        ordered = omega (arith, w.onward);
-        within = w.within;
-        missing = λ same. absurd (omega (arith, w.onward));
-        there = λ apart. s.kept ∙ w.first;
-      }
+-- ---- The end of a line
 
-  -- no word is left exactly where the next one is empty
-  pub parted-ended : {from : ℕ} {w : Word} → Parted text from w → eqb w.start w.end ≡ ended (words (drop from text))
-  unfolding ended
-  parted-ended {from} {w} p =
-      ⊎_elim (λ e. eq-eqb _ _ e ∙ sym (ap ended (p.missing e))) (λ n. ne_eqb _ _ n ∙ sym (ap ended (p.there n))) (equal_or_not w.start w.end)
+-- a list's last element alone
+last_one : (l : List ℕ) (i : ℕ) → length l ≡ suc i → drop i l ≡ get_or l i 0 ∷ []
+last_one l i e = drop-cons l i 0 (omega arith) ∙ ap (λ (r : List ℕ). get_or l i 0 ∷ r) (drop_all (suc i) l (omega arith))
+
+-- the last byte is asked, if there is one
+last : (l : List ℕ) → pointwise eqb (drop (length l - 1) l) (carriage_return ∷ []) ≡ eqb (get_or l (length l - 1) 0) carriage_return
+last [] = refl
+last (b ∷ l) =
+    let k : suc (length l) - 1 ≡ length l = omega arith in
+    rw k (ap (λ (r : List ℕ). pointwise eqb r (carriage_return ∷ [])) (last_one (b ∷ l) (length l) refl) ∙ and_true (eqb (get_or (b ∷ l) (length l) 0) carriage_return))
+  where
+    and_true : (t : Bool) → t && true ≡ t
+    and_true true = refl
+    and_true false = refl
+
+pub stripped : (line : Bor (List ℕ)) (o : Option (Bor (List ℕ)))
+    → MatchOption o (pointwise eqb (drop (length line.now - 1) line.now) (carriage_return ∷ []) ≡ false)
+    (λ x. (pointwise eqb (drop (length line.now - 1) line.now) (carriage_return ∷ []) ≡ true) × (x.now ≡ take (length line.now - 1) line.now) × (length x.now + 1 ≡ length line.now))
+    → (unwrap_or o line).now ≡ text_of line.now
+unfolding text_of text_length
+stripped line None h =
+    let l = line.now in
+    sym (ap (λ (t : Bool). take (cond t (length l - 1) (length l)) l) (sym (last l) ∙ h) ∙ take-length l)
+stripped line (Some x) h =
+    let l = line.now in
+    h.1 ∙ sym (ap (λ (t : Bool). take (cond t (length l - 1) (length l)) l) (sym (last l) ∙ h.0))

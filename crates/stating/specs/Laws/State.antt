@@ -3,7 +3,7 @@ use Rattle.std.specs.Prelude.{◌≡◌, refl, ℕ, zero, suc, ◌≤◌, ◌<�
 use Rattle.std.proofs.Common.{sym, ◌∙◌, ⊎_elim, arith, le-ltb}
 use Rattle.std.proofs.Math.Path.{ap, ap₂}
 use mathlib.Core.List.{List, [], ◌∷◌, ◌++◌, append_assoc}
-use Rattle.std.proofs.Math.ListN.{drop, get_or-append}
+use Rattle.std.proofs.Math.ListN.{take, drop, get_or-append}
 use Rattle.rules.specs.Sizes.{max_area}
 use Rattle.rules.specs.Answers.{number, accepts, refuse}
 use Rattle.rules.specs.Colours.{at}
@@ -20,6 +20,7 @@ use Rattle.game.specs.Asks.{no_facts, Told, Asked}
 use Rattle.game.specs.View.{view_of, TrueState}
 use Rattle.spelling.specs.Text.{space}
 use Rattle.writing.specs.Figures.{spaced}
+use Rattle.wording.specs.Laws.Replies.{rows-taken}
 use Rattle.wording.specs.Replies.{starts_row, point, rows_upto}
 use Rattle.stating.specs.State.{facts, state}
 use Rattle.stating.specs.Said.{told}
@@ -77,3 +78,12 @@ module _ (g : Game) (f : Facts) (before colours : List ℕ) (r : Listed) (long :
   state-said =
       append_assoc (told f) (space ∷ []) (rows_upto g.board.width colours (area g.board.height g.board.width))
       ∙ ap₂ (λ (a b : List ℕ). a ++ (space ∷ b)) (facts-told g f (asked.told is)) rows_true
+
+  -- the same behind the text that was there before
+  pub state-behind : (was : List ℕ) {facts-put space-put all-put : List ℕ} (n : ℕ) → facts-put ≡ was ++ told f → space-put ≡ facts-put ++ (space ∷ [])
+      → all-put ≡ space-put ++ rows_upto g.board.width (take n colours) (length (take n colours)) → n ≡ area g.board.height g.board.width → n ≤ length colours
+      → all-put ≡ was ++ state (view_of g)
+  state-behind was n p q r e l =
+      r
+      ∙ ap₂ (λ (a b : List ℕ). a ++ b) (q ∙ ap (λ (t : List ℕ). t ++ (space ∷ [])) p) (rows-taken g.board.width colours n l ∙ ap (rows_upto g.board.width colours) e)
+      ∙ simp append_assoc (ap (λ (t : List ℕ). was ++ t) (sym (append_assoc (told f) (space ∷ []) (rows_upto g.board.width colours (area g.board.height g.board.width))) ∙ state-said))

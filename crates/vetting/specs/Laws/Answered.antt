@@ -1,8 +1,11 @@
 -- Laws of Answered: a query refuses or tells by its answer's number, and two results that meet its promise are equal.
-use Rattle.std.specs.Prelude.{◌≡◌, refl, Bool, true, false, not, ◌&&◌, ◌||◌, ◌≢◌, ℕ, ◌<◌, ltb, leb}
-use Rattle.std.proofs.Common.{sym, ap, ◌∙◌, ⊎_elim, arith, leb-false}
+use Rattle.std.specs.Prelude.{◌≡◌, refl, Bool, true, false, not, ◌&&◌, ◌||◌, ℕ, ◌<◌, cond, eqb, ltb, leb, Result, Ok, Err}
+use Rattle.std.proofs.Common.{sym, ap, ◌∙◌, ⊎_elim, leb-false}
 use Rattle.rules.specs.Points.{area, index}
-use Rattle.rules.specs.Answers.{number, Accepted, Damaged, OffBoard}
+use Rattle.rules.specs.Answers.{number}
+use Rattle.points.specs.Reason.{reason, answer_of}
+use Rattle.points.specs.declared.answers.Refusal.{Refusal}
+use Rattle.points.specs.declared.answers.Refusal.TheVariants.{Damaged, OffBoard}
 use Rattle.rules.proofs.Laws.Lists.{decided, not-both, or-none-left, or-none-right}
 use Rattle.rules.proofs.Laws.Calls.{off-not-on}
 use Rattle.rules.proofs.Laws.Points.{index_on}
@@ -11,30 +14,28 @@ use Rattle.board.specs.True.{TrueBoard}
 use Rattle.board.specs.Laws.Judge.{true-or-not}
 use Rattle.vetting.specs.Answered.{off_board, Judged, Answered}
 
--- ---- The answer's number
+-- ---- The answer alone
 
 module _ {b : Board} {off : Bool} where
-  pub judged-damaged : ¬ TrueBoard b → Judged b off (number Damaged)
-  unfolding number
+  pub judged-damaged : ¬ TrueBoard b → Judged b off (Err Damaged)
   judged-damaged f =
       record {
         damaged = λ _. refl;
         beyond = λ t _. absurd (f t);
         accepted = λ t _. absurd (f t);
-        sound = λ e. absurd (omega arith);
+        sound = λ e. cc;
       }
 
-  pub judged-beyond : TrueBoard b → off ≡ true → Judged b off (number OffBoard)
-  unfolding number
+  pub judged-beyond : TrueBoard b → off ≡ true → Judged b off (Err OffBoard)
   judged-beyond t e =
       record {
         damaged = λ f. absurd (f t);
         beyond = λ _ _. refl;
         accepted = λ _ e'. absurd (not-both e e');
-        sound = λ z. absurd (omega arith);
+        sound = λ z. cc;
       }
 
-  pub judged-accepted : TrueBoard b → off ≡ false → Judged b off (number Accepted)
+  pub judged-accepted : TrueBoard b → off ≡ false → Judged b off (Ok tt)
   judged-accepted t e =
       record {
         damaged = λ f. absurd (f t);
@@ -43,29 +44,41 @@ module _ {b : Board} {off : Bool} where
         sound = λ _. (t, e);
       }
 
+-- what is refused is not accepted
+pub refused-so : {r : Refusal} → ◌≡◌ {A = Result Unit Refusal} (Err r) (Ok tt) → ⊥
+refused-so e = cc
+
 -- what was refused without looking at another point stays refused
-pub judged-kept : {b : Board} (off more : Bool) {a : ℕ} → Judged b off a → a ≢ number Accepted → Judged b (off || more) a
-judged-kept off more j n =
+pub judged-kept : {b : Board} (off more : Bool) {r : Refusal} → Judged b off (Err r) → Judged b (off || more) (Err r)
+judged-kept off more j =
     record {
       damaged = j.damaged;
-      beyond = λ t _. ⊎_elim (j.beyond t) (λ e. absurd (n (j.accepted t e))) (decided off);
-      accepted = λ t e. absurd (n (j.accepted t (or-none-left off more e)));
-      sound = λ e. absurd (n e);
+      beyond = λ t _. ⊎_elim (j.beyond t) (λ e. absurd (refused-so (j.accepted t e))) (decided off);
+      accepted = λ t e. absurd (refused-so (j.accepted t (or-none-left off more e)));
+      sound = λ e. absurd (refused-so e);
     }
 
 -- ---- The whole result
 
 module _ {R : Type 0} {b : Board} {off : Bool} (refused : ℕ → R) (said : R) where
-  pub answered-refused : {a : ℕ} → Judged b off a → a ≢ number Accepted → {r : R} → r ≡ refused a → Answered b off refused said r
-  answered-refused j n q =
+  pub answered-refused : {r : Refusal} → Judged b off (Err r) → {x : R} → x ≡ refused (number (reason r)) → Answered b off refused said x
+  answered-refused j q =
       record {
-        damaged = λ f. q ∙ ap refused (j.damaged f);
-        beyond = λ t e. q ∙ ap refused (j.beyond t e);
-        accepted = λ t e. absurd (n (j.accepted t e));
+        damaged = λ f. q ∙ ap (λ (a : Result Unit Refusal). refused (number (answer_of a))) (j.damaged f);
+        beyond = λ t e. q ∙ ap (λ (a : Result Unit Refusal). refused (number (answer_of a))) (j.beyond t e);
+        accepted = λ t e. absurd (refused-so (j.accepted t e));
       }
 
   pub answered-told : TrueBoard b × (off ≡ false) → {r : R} → r ≡ said → Answered b off refused said r
   answered-told (t, e) q = record { damaged = λ f. absurd (f t); beyond = λ _ e'. absurd (not-both e' e); accepted = λ _ _. q }
+
+-- the answer alone is a whole result too: the refusal that the number stands for, or nothing
+abbrev pub refused_by : ℕ → Result Unit Refusal
+refused_by n = cond (eqb n 3) (Err Damaged) (Err OffBoard)
+
+pub judged-answered : {b : Board} {off : Bool} {a : Result Unit Refusal} → Judged b off a → Answered b off refused_by (Ok tt) a
+unfolding number
+judged-answered j = record { damaged = j.damaged; beyond = j.beyond; accepted = j.accepted }
 
 -- a board is a true one or it is not, so a promise leaves nothing free
 pub answered-unique :

@@ -79,9 +79,10 @@ pub length-hex : (bytes : List ℕ) → length (hex bytes) ≡ 2 * length bytes
 length-hex [] = refl
 length-hex (b ∷ bytes) = let ih = length-hex bytes in omega arith
 
--- the two digits of one byte more
-pub hex-more : (bytes : List ℕ) (i : ℕ) → i < length bytes
-    → hex (take i bytes) ++ (hex_digit (get_or bytes i 0 / 16) ∷ []) ++ (hex_digit (get_or bytes i 0 % 16) ∷ []) ≡ hex (take (i + 1) bytes)
-hex-more bytes i l =
-    append_assoc (hex (take i bytes)) (hex_digit (get_or bytes i 0 / 16) ∷ []) (hex_digit (get_or bytes i 0 % 16) ∷ [])
-    ∙ sym (ap hex (taken bytes i l) ∙ hex-append (take i bytes) (get_or bytes i 0 ∷ []))
+-- the two digits of one byte more, behind the others
+pub hex-more : (was bytes : List ℕ) (i high low : ℕ) → i < length bytes → high ≡ hex_digit (get_or bytes i 0 / 16) → low ≡ hex_digit (get_or bytes i 0 % 16)
+    → (was ++ hex (take i bytes)) ++ (high ∷ []) ++ (low ∷ []) ≡ was ++ hex (take (i + 1) bytes)
+hex-more was bytes i high low l e f =
+    simp append_assoc
+    (ap (λ (t : List ℕ). was ++ t)
+    (ap₂ (λ (a b : ℕ). hex (take i bytes) ++ (a ∷ b ∷ [])) e f ∙ sym (ap hex (taken bytes i l) ∙ hex-append (take i bytes) (get_or bytes i 0 ∷ []))))

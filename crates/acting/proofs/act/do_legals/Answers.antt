@@ -8,9 +8,9 @@ use lib.Seq.{length-take-le}
 use Rattle.rules.specs.Sizes.{max_area}
 use Rattle.writing.specs.Figures.{decimal, spaced}
 use Rattle.wording.specs.Replies.{each}
-use Rattle.writing.specs.Laws.Put.{put_then}
 use Rattle.telling.specs.Reply.{TrueDesk}
 use Rattle.telling.specs.Laws.Told.{told-stays}
+use Rattle.acting.specs.Laws.Says.{text-short, all-behind}
 use Rattle.acting.specs.Laws.Lists.{listed-few, refused-text, damaged-text, accepted-true, accepted-text}
 use Rattle.acting.proofs.act.do_legals.Goals.{After-legals_by-listed}
 use Rattle.acting.proofs.act.do_legals.Goals as goal
@@ -44,19 +44,26 @@ slice_bounds-points-end c = omega (arith, few (goal.at.slice_bounds-points-end c
 pub slice_bounds-put_points-end : goal.slice_bounds-put_points-end
 slice_bounds-put_points-end c = sym (taken (goal.at.slice_bounds-put_points-end c).After-legals_by-listed)
 
-pub put_points-at-requires : goal.put_points-at-requires
-put_points-at-requires c =
-    omega (arith, taken (goal.at.put_points-at-requires c).After-legals_by-listed, few (goal.at.put_points-at-requires c).After-legals_by-listed, c.put_number-first.ensures.upper_bound, c.put_number-first.ensures.put.long, c.put_spaced-next.ensures.upper_bound, c.put_spaced-next.ensures.put.long, c.requires)
+pub put_points-requires : goal.put_points-requires
+put_points-requires c =
+    omega (arith, taken (goal.at.put_points-requires c).After-legals_by-listed, few (goal.at.put_points-requires c).After-legals_by-listed, c.put_number.ensures.upper_bound, c.put_spaced.ensures.upper_bound, c.requires)
 
 pub returns : goal.returns
 unfolding TrueDesk
 returns c =
     let l = c.legals_by-listed.ensures in
     let zero-told = c.if-listed-ne-ACCEPTED.false in
+    let said = all-behind _ _ _ c.from.ensures c.put_number.ensures.put c.put_spaced.ensures.put c.put_points.ensures.put in
+    let text = decimal 0 ++ spaced (decimal c.legals_by-listed.result.count) ++ each (take c.legals_by-listed.result.count c.legals_by-listed.new.buffer) in
     record {
-      text = decimal 0 ++ spaced (decimal c.legals_by-listed.result.count) ++ each (take c.legals_by-listed.result.count c.legals_by-listed.new.buffer);
-      written = put_then (put_then c.put_number-first.ensures.put c.put_spaced-next.ensures.put) c.put_points-at.ensures.put;
-      short = omega (arith, taken (goal.at.returns c).After-legals_by-listed, few (goal.at.returns c).After-legals_by-listed, c.put_number-first.ensures.upper_bound, c.put_spaced-next.ensures.upper_bound, c.put_points-at.ensures.upper_bound);
+      text = text;
+      written = said;
+      short =
+          omega (
+            arith,
+            text-short c.args.out.now.items text 8000 said
+                (omega (arith, taken (goal.at.returns c).After-legals_by-listed, few (goal.at.returns c).After-legals_by-listed, c.put_number.ensures.upper_bound, c.put_spaced.ensures.upper_bound, c.put_points.ensures.upper_bound)),
+          );
       done =
           record {
             told = accepted-text _ _ _ _ _ _ refl l zero-told;

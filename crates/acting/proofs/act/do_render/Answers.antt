@@ -42,19 +42,19 @@ slice_bounds-picture-end c = omega (arith, few (goal.at.slice_bounds-picture-end
 pub slice_bounds-put_hex-end : goal.slice_bounds-put_hex-end
 slice_bounds-put_hex-end c = sym (taken (goal.at.slice_bounds-put_hex-end c).After-pretty_string-drawn)
 
-pub put_hex-at-requires : goal.put_hex-at-requires
-put_hex-at-requires c = omega (arith, taken (goal.at.put_hex-at-requires c).After-pretty_string-drawn, few (goal.at.put_hex-at-requires c).After-pretty_string-drawn, c.requires)
+pub put_hex-requires : goal.put_hex-requires
+put_hex-requires c = omega (arith, taken (goal.at.put_hex-requires c).After-pretty_string-drawn, few (goal.at.put_hex-requires c).After-pretty_string-drawn, c.requires)
 
 pub returns : goal.returns
 unfolding Unlent
 returns c =
     λ bytes e.
     let d = c.pretty_string-drawn.ensures in
-    let p = c.put_hex-at.ensures in
+    let p = c.put_hex.ensures in
     record {
       text = hex (take c.pretty_string-drawn.result.count c.pretty_string-drawn.new.buffer);
       written = p;
-      short = omega (arith, p.counted, length-hex (take c.pretty_string-drawn.result.count c.pretty_string-drawn.new.buffer), taken (goal.at.returns c).After-pretty_string-drawn, few (goal.at.returns c).After-pretty_string-drawn);
+      short = omega (arith, length-hex (take c.pretty_string-drawn.result.count c.pretty_string-drawn.new.buffer), taken (goal.at.returns c).After-pretty_string-drawn, few (goal.at.returns c).After-pretty_string-drawn);
       done =
           record {
             told = drawn-text _ _ _ _ refl d;

@@ -1,14 +1,16 @@
 -- `answer`: what was read is what the line means, so what was done is what the rules say of it.
-use mathlib.Core.Path.{◌≡◌, refl, sym, ap, ◌∙◌, subst₂}
-use mathlib.Core.List.{List, []}
+use mathlib.Core.Path.{◌≡◌, refl, sym, ap, ◌∙◌, subst, subst₂}
+use mathlib.Core.List.{List, [], ◌∷◌, ◌++◌}
 use Prim.Native.Nat.{ℕ}
 use native.Mathlib.Omega.{arith}
 use lib.ListN.{length, replicate, length-replicate}
+use Rattle.std.specs.Prelude.{Result}
+use Rattle.lines.specs.declared.command.Fault.{Fault}
 use Rattle.lines.specs.declared.command.Read.{Read}
 use Rattle.lines.specs.Command.{meaning}
 use Rattle.lines.specs.Reads.{told}
 use Rattle.reading.specs.Laws.Few.{max_spots, meaning-few}
-use Rattle.writing.specs.Laws.Put.{put_then}
+use Rattle.writing.specs.Put.{Put}
 use Rattle.telling.specs.Reply.{Reply}
 use Rattle.acting.specs.Acts.{Acts, Ready}
 use Rattle.answering.specs.Laws.Does.{ready-told, does-told}
@@ -29,9 +31,13 @@ as-told c = c.read_line-read.ensures.read ∙ ap (λ (k : ℕ). told k (meaning 
 pub act-told-requires : goal.act-told-requires
 act-told-requires c =
     let line = c.args.line.now in (
-      omega (arith, c.if-out-lt-REPLY_BYTES.false),
-      subst₂ (λ (s : List ℕ) (r : Read). Ready line s r) (sym c.read_line-read.ensures.buffer) (sym (as-told (goal.at.act-told-requires c).After-read_line-read)) (ready-told line _ long (meaning line) refl (meaning-few line)),
+      omega (arith, ap length c.new-text.ensures),
+      subst₂ (λ (s : List ℕ) (r : Result Read Fault). Ready line s r) (sym c.read_line-read.ensures.buffer) (sym (as-told (goal.at.act-told-requires c).After-read_line-read)) (ready-told line _ long (meaning line) refl (meaning-few line)),
     )
+
+-- the text that was put into an empty one, and the line feed
+ended : (text : List ℕ) {empty told whole : List ℕ} → empty ≡ [] → told ≡ empty ++ text → whole ≡ told ++ (10 ∷ []) → whole ≡ text ++ (10 ∷ [])
+ended text e p q = q ∙ ap (λ (t : List ℕ). t ++ (10 ∷ [])) (p ∙ ap (λ (t : List ℕ). t ++ text) e)
 
 pub returns : goal.returns
 returns c =
@@ -44,8 +50,8 @@ returns c =
       text = done.text;
       does = λ l.
           does-told line _ long g bytes a (meaning line) (meaning-few line)
-          (subst₂ (λ (s : List ℕ) (r : Read). Acts line s g r bytes a) c.read_line-read.ensures.buffer (as-told (goal.at.returns c).After-read_line-read) done.done);
-      written = λ l. put_then done.written c.put_byte-count.ensures;
+          (subst₂ (λ (s : List ℕ) (r : Result Read Fault). Acts line s g r bytes a) c.read_line-read.ensures.buffer (as-told (goal.at.returns c).After-read_line-read) done.done);
+      written = λ l. subst (λ (t : List ℕ). Put t c.args.out.now 0 c.hand_out-count.result c.hand_out-count.new.out) (ended done.text c.new-text.ensures done.written c.push.ensures.items) c.hand_out-count.ensures;
       short = λ l. absurd (omega (arith, c.if-out-lt-REPLY_BYTES.false));
       silent = λ l. absurd (omega (arith, c.if-out-lt-REPLY_BYTES.false));
     }

@@ -64,7 +64,7 @@ returns-then-not-ring_good c =
 pub flood-stones-requires : goal.flood-stones-requires
 flood-stones-requires c =
     let o = c.index-origin.result in
-    (c.requires.numbers, c.requires.starting, lent-ready c.requires c.args.chain.colour (coloured (goal.at.flood-stones-requires c).After-owner_at), refl, origin_on c.requires o (origin-owned (goal.at.flood-stones-requires c).Else-owner_at-slot), origin-owned (goal.at.flood-stones-requires c).Else-owner_at-slot)
+    (c.requires.starting, lent-ready c.requires c.args.chain.colour (coloured (goal.at.flood-stones-requires c).After-owner_at), refl, origin_on c.requires o (origin-owned (goal.at.flood-stones-requires c).Else-owner_at-slot), origin-owned (goal.at.flood-stones-requires c).Else-owner_at-slot)
 
 pub returns-then-stones-index : goal.returns-then-stones-index
 unfolding chain_good

@@ -5,4 +5,4 @@ use Rattle.checking.proofs.point.told_by.Goals as goal
 pub returns : goal.returns
 returns c b is sees =
     let a = c.args in
-    told-seen b a.clock a.flags a.row a.column is a.colours.now a.sight sees _ c.spot_of-spot.ensures _ c.player_of-mover.ensures _ c.told_of.ensures
+    told-seen b a.clock a.flags a.row a.column is a.colours.now a.sight sees _ c.spot_of.ensures _ c.player_of.ensures _ c.told_of.ensures

@@ -10,8 +10,7 @@ use Rattle.rules.specs.Answers.{number}
 use Rattle.legality.specs.declared.near.Near.{Near}
 use Rattle.legality.specs.Near.{besides, saves, catches_more, caught}
 use Rattle.checking.specs.declared.spot.Spot.{Spot}
-use Rattle.checking.specs.declared.superko.Told.{Told}
-use Rattle.checking.specs.Told.{at_ko, told_of, told_near, told_spot}
+use Rattle.checking.specs.Told.{Told, at_ko, told_of, told_near, told_spot}
 use Rattle.checking.proofs.point.told_of.Goals.{Start}
 use Rattle.checking.proofs.point.told_of.Goals as goal
 
@@ -29,9 +28,6 @@ at-ko flags n cols h w own ko records p k e =
     ap
     (λ (b : Bool). told_of flags (not (any (saves own) (besides n))) (b && not (any catches_more (besides n))) (eye h w cols own p) (any (caught (other own)) (besides n)) records)
     e
-
-pub told-requires : goal.told-requires
-told-requires c = c.requires
 
 pub returns-in-Off : goal.returns-in-Off
 unfolding number

@@ -16,7 +16,7 @@ use Rattle.checking.proofs.superko.repeats.Goals.{After-record_by-bytes}
 use Rattle.checking.proofs.superko.repeats.Goals as goal
 
 pub lay-laid-requires : goal.lay-laid-requires
-lay-laid-requires c = record { laying = repeating-laying _ _ _ c.requires _ c.player_of.ensures; numbers = c.table-numbers.ensures }
+lay-laid-requires c = repeating-laying _ _ _ c.requires _ c.player_of.ensures
 
 pub look_at-sight-requires : goal.look_at-sight-requires
 look_at-sight-requires c = record { true_board = c.lay-laid.ensures.board; partly = unread _ }
@@ -38,10 +38,10 @@ is_recorded-requires c =
 pub returns : goal.returns
 unfolding resulting view_of
 returns c =
-    let a = c.args in
+    let a = c.args in let g = a.game.now in
     c.is_recorded.ensures
-    ∙ ap (among a.history.now a.game.records) (left-record (goal.at.returns c).After-record_by-bytes)
-    ∙ among-recorded a.history.now a.game.records _
-    ∙ ap (recorded a.history.now a.game.records)
+    ∙ ap (among a.history.now g.records) (left-record (goal.at.returns c).After-record_by-bytes)
+    ∙ among-recorded a.history.now g.records _
+    ∙ ap (recorded a.history.now g.records)
     (c.lay-laid.ensures.colours
-    ∙ ap (λ (own : ℕ). played a.game.board.height a.game.board.width a.game.flags (colours_of a.game.board) own a.point) c.player_of.ensures)
+    ∙ ap (λ (own : ℕ). played g.board.height g.board.width g.flags (colours_of g.board) own a.point) c.player_of.ensures)

@@ -5,10 +5,10 @@ use Rattle.counting.specs.Goban.{no_size, size_of}
 use Rattle.vetting.specs.Laws.Answered.{answered-refused, answered-told}
 use Rattle.counting.proofs.goban.size.Goals as goal
 
-pub returns-then-answer-ne-ACCEPTED : goal.returns-then-answer-ne-ACCEPTED
-unfolding number no_size
-returns-then-answer-ne-ACCEPTED c = answered-refused no_size _ c.answer_of-answer.ensures c.if-answer-ne-ACCEPTED.true refl
+pub returns-in-Err : goal.returns-in-Err
+unfolding no_size
+returns-in-Err c = answered-refused no_size _ c.in-Err.ensures (λ i. record { answer = c.number.ensures i; height = 0; width = 0 })
 
 pub returns : goal.returns
 unfolding number size_of
-returns c = answered-told no_size _ (c.answer_of-answer.ensures.sound c.if-answer-ne-ACCEPTED.false) refl
+returns c = answered-told no_size _ (c.answer_of.ensures.sound c.in_default.is) refl

@@ -3,39 +3,31 @@ use mathlib.Core.Path.{◌≡◌, sym, ◌∙◌, subst, ap}
 use mathlib.Core.List.{List}
 use Prim.Native.Nat.{ℕ}
 use native.Mathlib.Omega.{arith}
-use lib.ListN.{length, get_or}
-use Rattle.rules.specs.Sizes.{max_area}
+use lib.ListN.{get_or}
 use Rattle.rules.specs.Lists.{tabulate}
 use Rattle.rules.specs.Points.{area}
 use Rattle.rules.specs.Answers.{number}
 use Rattle.board.specs.Board.{colours_of}
 use Rattle.viewing.specs.declared.view.View.{View}
-use Rattle.listing.specs.Lists.{length_answer}
 use Rattle.viewing.specs.Front.{Front}
 use Rattle.viewing.specs.Laws.View.{view-colours}
-use Rattle.listing.specs.Laws.Seen.{view-seen}
+use Rattle.board.specs.Laws.Board.{area-fits}
+use Rattle.rules.proofs.Laws.Lists.{not-both}
 use Rattle.rules.proofs.Laws.Answers.{accepts-zero}
 use Rattle.listing.specs.Laws.Answers.{length-enough, left-refused, left-filled}
-use Rattle.drawing.proofs.draw.colours_true.Goals.{After-view_of-view}
+use Rattle.points.proofs.Reasons.{refused-so, refused-not, accepted-so, accepted-zero}
 use Rattle.drawing.proofs.draw.colours_true.Goals as goal
 
--- there is room
-accepted : (c : After-view_of-view) → let a = c.args in
-    number (length_answer a.board.height a.board.width (length a.buffer.now)) ≡ 0
-accepted c = sym c.length_refusal-number.ensures ∙ c.if-number-ne-ACCEPTED.false
-
-pub returns-then-number-ne-ACCEPTED : goal.returns-then-number-ne-ACCEPTED
-returns-then-number-ne-ACCEPTED c = left-refused _ _ _ c.length_refusal-number.result c.length_refusal-number.ensures c.if-number-ne-ACCEPTED.true
+pub returns-in-Err : goal.returns-in-Err
+returns-in-Err c =
+    let said = c.length_refusal.ensures in
+    let its = c.number.ensures ∙ ap number (sym (refused-so said c.in-Err.is)) in
+    left-refused _ _ _ c.number.result its (λ z. not-both (accepts-zero _ (sym its ∙ z)) (refused-not said c.in-Err.is))
 
 pub copy_colours-requires : goal.copy_colours-requires
 copy_colours-requires c =
-    let a = c.args in
-    let seen = view-seen a.board c.requires in
-    let enough = length-enough _ _ _ (accepts-zero _ (accepted (goal.at.copy_colours-requires c).After-view_of-view)) in (
-      subst (λ (v : View). length v.colours ≡ max_area) (sym c.view_of-view.ensures) seen.painted,
-      omega (arith, c.area-end.ensures, seen.fits),
-      omega (arith, c.area-end.ensures, enough),
-    )
+    let enough = length-enough _ _ _ (accepted-so c.length_refusal.ensures c.in_default.is) in
+    (omega (arith, c.area-end.ensures, area-fits c.requires.table.size), omega (arith, c.area-end.ensures, enough))
 
 pub returns : goal.returns
 returns c =
@@ -45,6 +37,6 @@ returns c =
     ap (tabulate (λ i. get_or c.view_of-view.result.colours i 0) 0) end.ensures
     ∙ subst (λ (v : View). tabulate (λ i. get_or v.colours i 0) 0 (area b.height b.width) ≡ colours_of b) (sym c.view_of-view.ensures)
     (view-colours b c.requires) in
-    left-filled _ _ _ (accepted (goal.at.returns c).After-view_of-view)
+    left-filled _ _ _ (accepted-zero c.length_refusal.ensures c.in_default.is)
     (subst (λ (xs : List ℕ). Front xs c.args.buffer.now end.result c.copy_colours.new.buffer) same
     c.copy_colours.ensures)

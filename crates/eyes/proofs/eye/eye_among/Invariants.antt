@@ -1,14 +1,8 @@
--- `eyes::eye::eye_among`: the corners before this one do not decide. The measure is how many are left.
-use mathlib.Core.Path.{◌≡◌}
-use Prim.Native.Nat.{◌-◌, ◌≤◌}
-use lib.ListN.{drop}
-use Rattle.rules.specs.Points.{corners}
+-- `eyes::eye::eye_among`: the corners before this one do not decide.
 use Rattle.rules.specs.Tests.{eye_among, empty_corners}
-use Rattle.eyes.specs.Laws.Eye.{among}
+use Rattle.eyes.specs.Laws.Eye.{Left}
 use Rattle.eyes.proofs.eye.eye_among.Given as goal
 
-abbrev pub invariant-loop-direction : goal.invariant-loop-direction
-invariant-loop-direction l = (l.direction ≤ 4) × (eye_among l.height l.width l.colours l.colour (empty_corners l.height l.width l.colours l.point) ≡ among l.height l.width l.colours l.colour (drop l.direction (corners l.height l.width l.point)))
-
-abbrev pub decreases-loop-direction : goal.decreases-loop-direction
-decreases-loop-direction l = 4 - l.direction
+abbrev pub invariant-loop-corner : goal.invariant-loop-corner
+invariant-loop-corner l =
+    Left l.height l.width l.colours l.colour (eye_among l.height l.width l.colours l.colour (empty_corners l.height l.width l.colours l.point)) l.corner-items l.corner-index

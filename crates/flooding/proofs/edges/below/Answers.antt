@@ -7,5 +7,5 @@ use Rattle.flooding.proofs.edges.below.Goals as goal
 pub returns-then-next-area : goal.returns-then-next-area
 returns-then-next-area c = let a = c.args in sym (below-some a.height a.width a.point c.requires.0 (omega (arith, c.area.ensures, c.if-next-area.true)))
 
-pub returns : goal.returns
-returns c = let a = c.args in sym (below_none a.height a.width a.point c.requires.0 (omega (arith, c.area.ensures, c.if-next-area.false)))
+pub returns-else-next-area : goal.returns-else-next-area
+returns-else-next-area c = let a = c.args in sym (below_none a.height a.width a.point c.requires.0 (omega (arith, c.area.ensures, c.if-next-area.false)))

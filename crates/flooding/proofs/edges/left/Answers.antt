@@ -25,5 +25,5 @@ inner c =
 pub overflow_sub-result : goal.overflow_sub-result
 overflow_sub-result c = let a = c.args in left-positive a.height a.width a.point c.requires.1 (inner (goal.at.overflow_sub-result c).Else-starts-point)
 
-pub returns : goal.returns
-returns c = let a = c.args in sym (left-some a.height a.width a.point c.requires.1 (inner (goal.at.returns c).Else-starts-point))
+pub returns-else-starts-point : goal.returns-else-starts-point
+returns-else-starts-point c = let a = c.args in sym (left-some a.height a.width a.point c.requires.1 (inner (goal.at.returns-else-starts-point c).Else-starts-point))

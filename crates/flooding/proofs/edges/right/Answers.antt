@@ -7,14 +7,14 @@ use Rattle.rules.specs.Flood.{marked}
 use Rattle.flooding.specs.Laws.Edges.{right-some, right-none}
 use Rattle.flooding.proofs.edges.right.Goals as goal
 
-pub returns-then-starts-next : goal.returns-then-starts-next
+pub returns-then-starts-point : goal.returns-then-starts-point
 unfolding marked
-returns-then-starts-next c =
+returns-then-starts-point c =
     let a = c.args in
-    sym (right-none a.height a.width a.point c.requires.1 (eqb-true _ 0 (sym (c.requires.0.begins (a.point + 1) (omega (arith, c.requires.1))) ∙ c.if-starts-next.true)))
+    sym (right-none a.height a.width a.point c.requires.1 (eqb-true _ 0 (sym (c.requires.0.begins (a.point + 1) (omega (arith, c.requires.1))) ∙ c.if-starts-point.true)))
 
-pub returns : goal.returns
+pub returns-else-starts-point : goal.returns-else-starts-point
 unfolding marked
-returns c =
+returns-else-starts-point c =
     let a = c.args in
-    sym (right-some a.height a.width a.point c.requires.1 (eqb-false _ 0 (sym (c.requires.0.begins (a.point + 1) (omega (arith, c.requires.1))) ∙ c.if-starts-next.false)))
+    sym (right-some a.height a.width a.point c.requires.1 (eqb-false _ 0 (sym (c.requires.0.begins (a.point + 1) (omega (arith, c.requires.1))) ∙ c.if-starts-point.false)))

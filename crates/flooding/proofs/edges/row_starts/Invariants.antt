@@ -1,10 +1,6 @@
--- `row_starts` meets its contract: the points before the one that is reached are told, and it begins a row. The measure is what is left.
-use Prim.Native.Nat.{◌+◌, ◌-◌}
+-- `row_starts` meets its contract: the points before the one that is reached are told, and it begins a row.
 use Rattle.flooding.specs.Laws.Edges.{Begun}
 use Rattle.flooding.proofs.edges.row_starts.Given as goal
 
 abbrev pub invariant-loop-point : goal.invariant-loop-point
 invariant-loop-point l = Begun l.width l.starts l.point
-
-abbrev pub decreases-loop-point : goal.decreases-loop-point
-decreases-loop-point l = l.end + 1 - l.point

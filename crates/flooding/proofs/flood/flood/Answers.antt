@@ -16,24 +16,24 @@ use Rattle.flooding.proofs.flood.flood.Goals as goal
 -- the flood so far
 flooding : (c : At-loop-head)
     → let a = c.args in
-    Flooding a.height a.width a.slot a.colour a.origin a.notes.now c.loop-head.notes c.loop-head.queue c.loop-head.seen c.loop-head.tail c.loop-head.hash c.loop-head.head
+    Flooding a.ground.now.height a.ground.now.width a.ground.now.slot a.ground.now.colour a.origin a.notes.now c.loop-head.notes c.loop-head.queue c.loop-head.seen c.loop-head.tail c.loop-head.hash c.loop-head.head
 flooding c =
     let a = c.args in
     c.loop-head.invariant a.notes.now
-    (flooding-begin a.height a.width a.slot a.colour a.origin a.notes.now c.requires.5 (λ q. ap (λ (xs : List ℕ). sees xs q) c.requires.3 ∙ none_seen seen_words q)
-    (looked-pushed a.seen.now (ap length c.requires.3 ∙ length-replicate {A = ℕ} seen_words 0) c.requires.2 c.requires.4 c.requires.5 c.push-tail.ensures))
+    (flooding-begin a.ground.now.height a.ground.now.width a.ground.now.slot a.ground.now.colour a.origin a.notes.now c.requires.4 (λ q. ap (λ (xs : List ℕ). sees xs q) c.requires.2 ∙ none_seen seen_words q)
+    (looked-pushed a.seen.now (ap length c.requires.2 ∙ length-replicate {A = ℕ} seen_words 0) c.requires.1 c.requires.3 c.requires.4 c.push-tail.ensures))
 
 -- what stands in the queue is on the board
-on : (c : After-index-point) → let a = c.args in c.index-point.result < area a.height a.width
-on c = let flooding_here : let a = c.args in Flooding a.height a.width a.slot a.colour a.origin a.notes.now c.loop-head.notes c.loop-head.queue c.loop-head.seen c.loop-head.tail c.loop-head.hash c.loop-head.head = let a = c.args in c.loop-head.invariant a.notes.now (flooding-begin a.height a.width a.slot a.colour a.origin a.notes.now c.requires.5 (λ q. ap (λ (xs : List ℕ). sees xs q) c.requires.3 ∙ none_seen seen_words q) (looked-pushed a.seen.now (ap length c.requires.3 ∙ length-replicate {A = ℕ} seen_words 0) c.requires.2 c.requires.4 c.requires.5 c.push-tail.ensures)) in
+on : (c : After-index-point) → let a = c.args in c.index-point.result < area a.ground.now.height a.ground.now.width
+on c = let flooding_here : let a = c.args in Flooding a.ground.now.height a.ground.now.width a.ground.now.slot a.ground.now.colour a.origin a.notes.now c.loop-head.notes c.loop-head.queue c.loop-head.seen c.loop-head.tail c.loop-head.hash c.loop-head.head = let a = c.args in c.loop-head.invariant a.notes.now (flooding-begin a.ground.now.height a.ground.now.width a.ground.now.slot a.ground.now.colour a.origin a.notes.now c.requires.4 (λ q. ap (λ (xs : List ℕ). sees xs q) c.requires.2 ∙ none_seen seen_words q) (looked-pushed a.seen.now (ap length c.requires.2 ∙ length-replicate {A = ℕ} seen_words 0) c.requires.1 c.requires.3 c.requires.4 c.push-tail.ensures)) in
     let a = c.args in
-    found-on a.height a.width (owner_in a.notes.now) a.slot a.origin c.index-point.result
-    ((found-says a.height a.width (owner_in a.notes.now) a.slot a.origin c.index-point.result).1
-    (c.requires.4, rw c.index-point.ensures ((flooding_here).reached c.loop-head.head c.loop-head-test.true)))
+    found-on a.ground.now.height a.ground.now.width (owner_in a.notes.now) a.ground.now.slot a.origin c.index-point.result
+    ((found-says a.ground.now.height a.ground.now.width (owner_in a.notes.now) a.ground.now.slot a.origin c.index-point.result).1
+    (c.requires.3, rw c.index-point.ensures ((flooding_here).reached c.loop-head.head c.loop-head-test.true)))
 
 pub push-tail-requires : goal.push-tail-requires
 push-tail-requires c =
-    (c.requires.0, c.requires.2.notes_long, c.requires.2.queue_long, omega arith, omega (arith, c.requires.4, c.requires.2.fits))
+    (omega arith, omega (arith, c.requires.3, c.requires.1.fits))
 
 pub loop-head-init : goal.loop-head-init
 loop-head-init c = λ before is. is
@@ -46,7 +46,7 @@ bounds-queue-head c = omega (arith, (flooding (goal.at.bounds-queue-head c).At-l
 
 pub look_around-tail-requires : goal.look_around-tail-requires
 look_around-tail-requires c =
-    (c.requires.0, c.requires.1, (flooding (goal.at.look_around-tail-requires c).At-loop-head).ready, (flooding (goal.at.look_around-tail-requires c).At-loop-head).seen_long, on (goal.at.look_around-tail-requires c).After-index-point)
+    (c.requires.0, (flooding (goal.at.look_around-tail-requires c).At-loop-head).ready, on (goal.at.look_around-tail-requires c).After-index-point)
 
 pub overflow_add-head : goal.overflow_add-head
 overflow_add-head c = omega (arith, (flooding (goal.at.overflow_add-head c).At-loop-head).ready.room)
@@ -61,4 +61,4 @@ loop-head-preserved c =
 
 pub returns : goal.returns
 returns c =
-    flooding-end _ _ _ _ _ _ c.requires.4 (flooding (goal.at.returns c).At-loop-head) c.loop-head-test.false
+    flooding-end _ _ _ _ _ _ c.requires.3 (flooding (goal.at.returns c).At-loop-head) c.loop-head-test.false

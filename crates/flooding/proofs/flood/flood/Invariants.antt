@@ -7,8 +7,8 @@ use Rattle.flooding.specs.Laws.Flooding.{Flooding}
 use Rattle.flooding.proofs.flood.flood.Given as goal
 
 abbrev pub invariant-loop-head : goal.invariant-loop-head
-invariant-loop-head l = (before : List ℕ) → Flooding l.height l.width l.slot l.colour l.origin before l.initial.notes l.initial.queue l.initial.seen l.initial.tail l.initial.hash 0
-    → Flooding l.height l.width l.slot l.colour l.origin before l.notes l.queue l.seen l.tail l.hash l.head
+invariant-loop-head l = (before : List ℕ) → Flooding l.ground.height l.ground.width l.ground.slot l.ground.colour l.origin before l.initial.notes l.initial.queue l.initial.seen l.initial.tail l.initial.hash 0
+    → Flooding l.ground.height l.ground.width l.ground.slot l.ground.colour l.origin before l.notes l.queue l.seen l.tail l.hash l.head
 
 abbrev pub decreases-loop-head : goal.decreases-loop-head
 decreases-loop-head l = max_area - l.head

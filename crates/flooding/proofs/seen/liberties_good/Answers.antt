@@ -19,7 +19,7 @@ small : (c : Start) (i : ℕ) → get_or c.args.seen i 0 < 2 ^ 64
 small c i = let f : Fits w64 (get_or c.args.seen i 0) = search rules in f.fits
 
 pub loop-i-init : goal.loop-i-init
-loop-i-init c = (omega arith, compared-none _ _)
+loop-i-init c = compared-none _ _
 
 pub returns-then-seen-i : goal.returns-then-seen-i
 returns-then-seen-i c =
@@ -27,9 +27,9 @@ returns-then-seen-i c =
 
 pub loop-i-preserved : goal.loop-i-preserved
 loop-i-preserved c =
-    (omega arith, compared-next c.args.kept c.args.seen c.loop-i.invariant.1 (c.if-seen-i.false ∙ c.word.ensures))
+    compared-next c.args.kept c.args.seen c.loop-i.invariant (c.if-seen-i.false ∙ c.word.ensures)
 
 pub returns : goal.returns
 returns c =
     let past : c.loop-i.i ≡ seen_words = omega arith in
-    words-decide c.args.kept c.args.seen (came (goal.at.returns c).Start) (small (goal.at.returns c).Start) c.requires (rw past at c.loop-i.invariant.1)
+    words-decide c.args.kept c.args.seen (came (goal.at.returns c).Start) (small (goal.at.returns c).Start) c.requires (rw past at c.loop-i.invariant)

@@ -11,5 +11,5 @@ use Rattle.flooding.proofs.seen.see.Goals as goal
 pub returns : goal.returns
 returns c =
     let a = c.args in
-    saw-stored a.seen.now a.point _ c.requires.0 c.requires.1
+    saw-stored a.seen.now a.point _ c.told-seen c.requires
     (shl_exact 1 (a.point % 64) 64 (lit< tt) (omega arith) ∙ one-mul (2 ^ (a.point % 64)))

@@ -1,28 +1,22 @@
 -- A damaged state tells nothing; every fact of a true one is its field, or what the leaf for it ensures.
-use mathlib.Core.Path.{refl}
+use mathlib.Core.Path.{refl, ap, ◌∙◌}
+use Prim.Native.Nat.{ℕ}
+use Rattle.std.specs.Prelude.{Option}
 use Rattle.rules.specs.Answers.{number}
 use Rattle.rules.proofs.Laws.Lists.{not-both}
-use Rattle.game.specs.View.{view_of, TrueState}
-use Rattle.game.specs.Asks.{no_facts}
-use Rattle.game.specs.Judge.{Decides}
-use Rattle.game.specs.Laws.Judge.{decides-state}
-use Rattle.game.proofs.asks.facts_of.Goals.{After-numbers_fit}
+use Rattle.game.specs.View.{view_of}
+use Rattle.game.specs.Asks.{is_over, no_facts}
 use Rattle.game.proofs.asks.facts_of.Goals as goal
 
--- both judges together are the judge of the state
-judge : (c : After-numbers_fit) → let a = c.args in Decides c.numbers_fit.result (TrueState a.game)
-judge c = decides-state c.clock_of-clock.ensures (c.judged-found.ensures.sound, (c.judged-found.ensures.complete, (c.judged-found.ensures.blacks, c.judged-found.ensures.whites))) c.numbers_fit.ensures
-
-pub returns-then-not-numbers_fit : goal.returns-then-not-numbers_fit
+pub returns-then-not-judge_state : goal.returns-then-not-judge_state
 unfolding number no_facts
-returns-then-not-numbers_fit c =
-    record { damaged = λ n. refl; told = λ is. absurd (not-both ((judge (goal.at.returns-then-not-numbers_fit c).After-numbers_fit).complete is) (c.if-not-numbers_fit.true)) }
+returns-then-not-judge_state c = record { damaged = λ n. refl; told = λ is. absurd (not-both (c.judge_state.ensures.complete is) c.if-not-judge_state.true) }
 
 pub returns : goal.returns
 unfolding number view_of
 returns c =
     record {
-      damaged = λ n. absurd (n ((judge (goal.at.returns c).After-numbers_fit).sound (c.if-not-numbers_fit.false)));
+      damaged = λ n. absurd (n (c.judge_state.ensures.sound c.if-not-judge_state.false));
       told =
           λ is.
           record {
@@ -30,13 +24,13 @@ returns c =
             height = refl;
             width = refl;
             flags = refl;
-            turn = c.player_of-turn.ensures;
+            turn = c.player_of.ensures;
             passes = refl;
             black_held = refl;
             white_held = refl;
-            ko = c.ko_point-ko.ensures;
-            outcome = c.outcome_of-named.ensures;
-            over = c.is_over-over.ensures;
+            ko = c.ko_point.ensures;
+            outcome = c.outcome_of-outcome.ensures;
+            over = c.is_over.ensures ∙ ap (λ (o : Option ℕ). is_over o c.args.game.passes) c.outcome_of-outcome.ensures;
             handicap = refl;
             accepted = refl;
             records = refl;

@@ -8,7 +8,7 @@ unfolding fresh_state
 returns c =
     λ i.
     record {
-      board = c.empty_board-board.ensures i;
+      board = c.empty_board.ensures i;
       flags = c.args.flags;
       turn = black;
       passes = 0;

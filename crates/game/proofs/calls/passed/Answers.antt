@@ -1,6 +1,5 @@
 -- Each way out is one of the promise's laws: two passes stand, or the call is accepted.
 use mathlib.Core.Path.{ap, ◌∙◌}
-use native.Mathlib.Omega.{arith}
 use Rattle.rules.specs.Colours.{other}
 use Rattle.rules.specs.Answers.{number}
 use Rattle.rules.specs.Calls.{pass_game, pass}
@@ -13,9 +12,6 @@ pub returns-then-clock-ge2 : goal.returns-then-clock-ge2
 unfolding number pass
 returns-then-clock-ge2 c = paused-refused _ (λ g. pass_game (view_of g)) c.if-clock-ge2.true
 
-pub overflow_add-after : goal.overflow_add-after
-overflow_add-after c = omega (arith, c.if-clock-ge2.false)
-
 pub returns : goal.returns
-unfolding passed
+unfolding passed number
 returns c = pass-ticks _ c.if-clock-ge2.false _ (c.other-next.ensures ∙ ap other c.player_of-mover.ensures)

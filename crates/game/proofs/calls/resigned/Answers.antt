@@ -11,5 +11,5 @@ unfolding number resign
 returns-then-clock-ge2 c = paused-refused _ (λ g. resign_game (view_of g) (turn_of c.args.player)) c.if-clock-ge2.true
 
 pub returns : goal.returns
-unfolding resigned
+unfolding resigned number
 returns c = resign-ticks _ c.if-clock-ge2.false _ _ c.player_of.ensures

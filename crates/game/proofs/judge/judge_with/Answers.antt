@@ -1,7 +1,12 @@
--- The board's judge, and the numbers and the room beside what it found.
-use Rattle.game.specs.Laws.Judge.{two_ways, decides-with}
+-- No room decides, or the numbers do.
+use Rattle.rules.proofs.Laws.Lists.{not-both}
+use Rattle.game.specs.View.{RoomIn}
 use Rattle.game.proofs.judge.judge_with.Goals as goal
 
-pub returns : goal.returns
-returns c =
-    let told = two_ways (decides-with c.clock_of-clock.ensures (c.judged-found.ensures.sound, (c.judged-found.ensures.complete, (c.judged-found.ensures.blacks, c.judged-found.ensures.whites))) _ c.numbers_fit_with.ensures) in record { sound = told.0; complete = told.1 }
+pub returns-then-has_room : goal.returns-then-has_room
+unfolding RoomIn
+returns-then-has_room c = record { sound = λ t. (c.judge_state.ensures.sound t, c.has_room.ensures.sound c.if-has_room.true); complete = λ both. c.judge_state.ensures.complete both.0 }
+
+pub returns-else-has_room : goal.returns-else-has_room
+unfolding RoomIn
+returns-else-has_room c = record { sound = λ t. absurd (not-both t c.if-has_room.false); complete = λ both. c.has_room.ensures.complete both.1 }

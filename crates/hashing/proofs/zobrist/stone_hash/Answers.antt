@@ -26,10 +26,10 @@ pub returns-then-colour-eq-BLACK : goal.returns-then-colour-eq-BLACK
 unfolding stone_hash
 returns-then-colour-eq-BLACK c =
     simp (lt-ltb _ _ c.if-point-ge-MAX_AREA.false, ne_eqb _ _ c.if-colour-eq-EMPTY.false, eq-eqb _ _ c.if-colour-eq-BLACK.true)
-    (entry_at c.requires (omega arith))
+    (entry_at c.table-numbers.ensures (omega arith))
 
 pub returns : goal.returns
 unfolding stone_hash
 returns c =
     simp (lt-ltb _ _ c.if-point-ge-MAX_AREA.false, ne_eqb _ _ c.if-colour-eq-EMPTY.false, ne_eqb _ _ c.if-colour-eq-BLACK.false)
-    (entry_at c.requires (omega arith))
+    (entry_at c.table-numbers.ensures (omega arith))

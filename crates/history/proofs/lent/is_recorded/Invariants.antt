@@ -1,13 +1,10 @@
--- `history::lent::is_recorded`: none of the records looked at is this one. The measure is how many are left.
+-- `history::lent::is_recorded`: none of the records looked at is this one.
 use mathlib.Core.Path.{◌≡◌}
 use mathlib.Core.Bool.{false}
-use Prim.Native.Nat.{ℕ, ◌≤◌, ◌<◌, ◌-◌}
+use Prim.Native.Nat.{ℕ, ◌<◌}
 use Rattle.rules.specs.Lists.{same}
 use Rattle.rules.specs.Records.{stored}
 use Rattle.history.proofs.lent.is_recorded.Given as goal
 
-abbrev pub invariant-loop-looked : goal.invariant-loop-looked
-invariant-loop-looked l = (l.looked ≤ l.count) × ((k : ℕ) → k < l.looked → same (stored l.history k) l.bytes ≡ false)
-
-abbrev pub decreases-loop-looked : goal.decreases-loop-looked
-decreases-loop-looked l = l.count - l.looked
+abbrev pub invariant-loop-i : goal.invariant-loop-i
+invariant-loop-i l = (k : ℕ) → k < l.i → same (stored l.history k) l.bytes ≡ false

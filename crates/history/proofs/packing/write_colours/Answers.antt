@@ -19,20 +19,11 @@ unfolding four_colours
 four cols i p q r s = rw (p, q, r, s)
 
 pub loop-i-init : goal.loop-i-init
-loop-i-init c = (omega arith, paste-zero c.args.bytes.now hash_bytes (colour_part c.args.colours.now))
-
-pub colour_at-second-requires : goal.colour_at-second-requires
-colour_at-second-requires c = c.requires.1.long
-
-pub colour_at-third-requires : goal.colour_at-third-requires
-colour_at-third-requires c = c.requires.1.long
-
-pub colour_at-fourth-requires : goal.colour_at-fourth-requires
-colour_at-fourth-requires c = c.requires.1.long
+loop-i-init c = paste-zero c.args.bytes.now hash_bytes (colour_part c.args.colours.now)
 
 pub packed-requires : goal.packed-requires
 packed-requires c =
-    let small = c.requires.1.small in (
+    let small = c.requires.small in (
       rw c.colour_at-first.ensures (small _),
       rw c.colour_at-second.ensures (small _),
       rw c.colour_at-third.ensures (small _),
@@ -43,19 +34,17 @@ pub loop-i-preserved : goal.loop-i-preserved
 unfolding colour_part
 loop-i-preserved c =
     let cols = c.args.colours.now in
-    let i = c.loop-i.i in (
-      omega arith,
-      ap (λ (l : List ℕ). set l (hash_bytes + i) c.packed.result) c.loop-i.invariant.1
-          ∙ paste_more c.args.bytes.now hash_bytes (colour_part cols) i (hash_bytes + i) c.packed.result refl (omega arith)
-          (rw (length-tabulate (four_colours cols) 0 colour_bytes) c.loop-i-test.true)
-          (c.packed.ensures ∙ four cols i c.colour_at-first.ensures c.colour_at-second.ensures c.colour_at-third.ensures c.colour_at-fourth.ensures ∙ sym (get_or-tabulate-zero (four_colours cols) colour_bytes i 0 c.loop-i-test.true)),
-    )
+    let i = c.loop-i.i in
+    ap (λ (l : List ℕ). set l (hash_bytes + i) c.packed.result) c.loop-i.invariant
+    ∙ paste_more c.args.bytes.now hash_bytes (colour_part cols) i (hash_bytes + i) c.packed.result refl (omega arith)
+    (rw (length-tabulate (four_colours cols) 0 colour_bytes) c.loop-i-test.true)
+    (c.packed.ensures ∙ four cols i c.colour_at-first.ensures c.colour_at-second.ensures c.colour_at-third.ensures c.colour_at-fourth.ensures ∙ sym (get_or-tabulate-zero (four_colours cols) colour_bytes i 0 c.loop-i-test.true))
 
 pub returns : goal.returns
 unfolding colour_part
 returns c =
     let cols = c.args.colours.now in
     let done : c.loop-i.i ≡ colour_bytes = omega arith in
-    c.loop-i.invariant.1
+    c.loop-i.invariant
     ∙ ap (paste c.args.bytes.now hash_bytes (colour_part cols)) done
     ∙ paste-whole c.args.bytes.now hash_bytes (colour_part cols) colour_bytes (length-tabulate (four_colours cols) 0 colour_bytes)

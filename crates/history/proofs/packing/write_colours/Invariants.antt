@@ -1,13 +1,9 @@
--- `history::packing::write_colours`: the first i bytes after the hash are written. The measure is how many are left.
+-- `history::packing::write_colours`: the first i bytes after the hash are written.
 use mathlib.Core.Path.{◌≡◌}
-use Prim.Native.Nat.{◌≤◌, ◌-◌}
 use lib.Seq.{paste}
-use Rattle.rules.specs.Sizes.{hash_bytes, colour_bytes}
+use Rattle.rules.specs.Sizes.{hash_bytes}
 use Rattle.history.specs.Packing.{colour_part}
 use Rattle.history.proofs.packing.write_colours.Given as goal
 
 abbrev pub invariant-loop-i : goal.invariant-loop-i
-invariant-loop-i l = (l.i ≤ colour_bytes) × (l.bytes ≡ paste l.initial.bytes hash_bytes (colour_part l.colours) l.i)
-
-abbrev pub decreases-loop-i : goal.decreases-loop-i
-decreases-loop-i l = colour_bytes - l.i
+invariant-loop-i l = l.bytes ≡ paste l.initial.bytes hash_bytes (colour_part l.colours) l.i

@@ -1,9 +1,7 @@
--- `fill`: after some turns the legal points among the first stand at the front. The measure is how many points are left.
+-- `fill`: after some turns the legal points among the first stand at the front.
 use mathlib.Core.Bool.{Bool}
 use mathlib.Core.List.{List}
-use mathlib.Core.Path.{◌≡◌}
-use Prim.Native.Nat.{ℕ, ◌+◌, ◌≤◌}
-use lib.ListN.{length}
+use Prim.Native.Nat.{ℕ, ◌≤◌}
 use Rattle.rules.specs.Lists.{pick, below}
 use Rattle.rules.specs.Points.{row, column}
 use Rattle.rules.specs.Answers.{accepts}
@@ -17,8 +15,5 @@ use Rattle.legals.proofs.list.fill.Given as goal
 abbrev pub legal-at : Game → List ℕ → ℕ → ℕ → Bool
 legal-at g bytes flags p = accepts (point_answer (view_of g) bytes flags (row g.board.width p) (column g.board.width p))
 
-abbrev pub invariant-loop-left : goal.invariant-loop-left
-invariant-loop-left l = (l.point + l.left ≡ l.initial.left) × (l.count ≤ l.point) × (length l.buffer ≡ length l.initial.buffer) × Front (pick (legal-at l.game l.history l.flags) (below l.point)) l.initial.buffer l.count l.buffer
-
-abbrev pub decreases-loop-left : goal.decreases-loop-left
-decreases-loop-left l = l.left
+abbrev pub invariant-loop-point : goal.invariant-loop-point
+invariant-loop-point l = (l.count ≤ l.point) × Front (pick (legal-at l.game l.history l.flags) (below l.point)) l.initial.buffer l.count l.buffer

@@ -1,29 +1,22 @@
--- `next_spot`: two numbers more; the words cannot end before them.
-use mathlib.Core.Path.{refl, subst}
-use Rattle.spelling.specs.Steps.{Told, Numbered}
-use Rattle.lines.specs.Laws.Spots.{spotted-both, spotted-odd, spotted-broken, spotted-end, spotted-bad}
-use Rattle.lines.proofs.read.next_spot.Goals.{In-Number}
+-- `next_spot`: two numbers more.
+use Rattle.std.proofs.Common.{refl}
+use Rattle.lines.specs.Laws.Spots.{spotted-end, spotted-odd, spotted-bad, spotted-broken, spotted-both}
 use Rattle.lines.proofs.read.next_spot.Goals as goal
 
--- the number that was read
-numbered : (c : In-Number)
-    → Numbered c.args.text.now c.args.from c.in-Number.row c.in-Number.second
-numbered c = subst (Told _ _) c.in-Number.is c.next_number.ensures
+pub returns-in_err-row : goal.returns-in_err-row
+returns-in_err-row c = rw c.from_residual.ensures (spotted-end _ c.in_err-row.ensures.parted)
 
-pub next_number-requires-in-Number : goal.next_number-requires-in-Number
-next_number-requires-in-Number c = (numbered (goal.at.next_number-requires-in-Number c).In-Number).within
+pub returns-in_err-column : goal.returns-in_err-column
+returns-in_err-column c = rw c.from_residual-in_err-column.ensures (spotted-odd _ _ c.in_ok-row.ensures.parted c.in_err-column.ensures.parted)
 
-pub returns-in-Number-next_number : goal.returns-in-Number-next_number
-returns-in-Number-next_number c = spotted-both (numbered (goal.at.returns-in-Number-next_number c).In-Number) (subst (Told _ _) c.in-Number-next_number.is c.next_number-in-Number.ensures) _ c.spot_of-spot.ensures refl
+pub returns-in_err-number_of : goal.returns-in_err-number_of
+returns-in_err-number_of c = rw c.from_residual-in_err-number_of.ensures (spotted-bad _ _ c.in_ok-row.ensures.parted c.in_err-number_of.ensures)
 
-pub returns-in-End-next_number : goal.returns-in-End-next_number
-returns-in-End-next_number c = spotted-odd (numbered (goal.at.returns-in-End-next_number c).In-Number) (subst (Told _ _) c.in-End-next_number.is c.next_number-in-Number.ensures) _
+pub returns-in_err-number_of-2 : goal.returns-in_err-number_of-2
+returns-in_err-number_of-2 c =
+    rw c.from_residual-in_err-number_of-2.ensures
+    (spotted-broken _ _ c.in_ok-row.ensures.parted _ c.in_ok-column.ensures.parted c.in_err-number_of-2.ensures)
 
-pub returns-in-Bad-next_number : goal.returns-in-Bad-next_number
-returns-in-Bad-next_number c = spotted-broken (numbered (goal.at.returns-in-Bad-next_number c).In-Number) (subst (Told _ _) c.in-Bad-next_number.is c.next_number-in-Number.ensures) _
-
-pub returns-in-End : goal.returns-in-End
-returns-in-End c = spotted-end _ _ (subst (Told _ _) c.in-End.is c.next_number.ensures) _
-
-pub returns-in-Bad : goal.returns-in-Bad
-returns-in-Bad c = spotted-bad _ _ (subst (Told _ _) c.in-Bad.is c.next_number.ensures) _
+pub returns : goal.returns
+returns c =
+    spotted-both _ _ c.in_ok-row.ensures.parted _ c.in_ok-column.ensures.parted _ c.in_ok-number_of.ensures c.in_ok-number_of-2.ensures c.spot_of-spot.ensures refl

@@ -1,55 +1,48 @@
 -- `refusal`: the code and the definition make the same tests, in the same order.
-use mathlib.Core.Path.{◌≡◌, ap, sym, ◌∙◌}
-use mathlib.Core.Bool.{not}
-use Prim.Native.Nat.{ℕ}
-use native.Mathlib.Omega.{arith}
-use borrow.Author.Tests.{lt-ltb, le-ltb}
-use Rattle.rules.specs.Answers.{OffBoard, BadColour, number}
-use Rattle.listing.specs.Lists.{length_answer}
-use Rattle.rules.proofs.Laws.Answers.{accepts-zero, refuses-other, then-refused, then-accepted, refuses, passes, refused-then, passed_then}
+use Rattle.std.proofs.Common.{rules, Err, ◌≡◌, ap, sym, ◌∙◌, not, lt-ltb, le-ltb}
+use Rattle.rules.specs.Answers.{OffBoard, BadColour}
+use Rattle.points.specs.Reason.{answer_of}
+use Rattle.points.specs.declared.answers.Refusal.TheVariants as Refusals
+use Rattle.rules.proofs.Laws.Answers.{then-refused, then-accepted, refuses, passes, test-refuses, test-passes}
 use Rattle.rules.proofs.Laws.Calls.{off-not-on}
+use Rattle.points.proofs.Reasons.{refuses as reason-refuses, refused-so, refused-not, accepted-so}
 use Rattle.listing.proofs.list.refusal.Goals as goal
 
-pub returns-then-short-ne-ACCEPTED : goal.returns-then-short-ne-ACCEPTED
-returns-then-short-ne-ACCEPTED c =
+pub returns-in_err-length_refusal-in-Coloured : goal.returns-in_err-length_refusal-in-Coloured
+returns-in_err-length_refusal-in-Coloured c =
+    let short = c.length_refusal-in-Coloured.ensures in
+    let passed : c.from_residual.result ≡ Err c.in_err-length_refusal-in-Coloured.field-0.0 = search rules in
     rw c.in-Coloured.is
-    (c.length_refusal-short.ensures ∙ sym (ap number (then-refused _ _ (refuses-other _ (λ e. c.if-short-ne-ACCEPTED.true (c.length_refusal-short.ensures ∙ e))))))
+    (ap answer_of passed
+    ∙ sym (then-refused _ _ (refused-not short c.in_err-length_refusal-in-Coloured.was) ∙ refused-so short c.in_err-length_refusal-in-Coloured.was))
 
 pub returns-then-colour-gt-WHITE : goal.returns-then-colour-gt-WHITE
-unfolding number
 returns-then-colour-gt-WHITE c =
     rw c.in-Coloured.is
     (sym
-    (ap number
-    (then-accepted _ _ (accepts-zero _ (sym c.length_refusal-short.ensures ∙ c.if-short-ne-ACCEPTED.false))
-    ∙ refuses BadColour (lt-ltb _ _ c.if-colour-gt-WHITE.true))))
-
-pub returns-then-is_coord_valid : goal.returns-then-is_coord_valid
-returns-then-is_coord_valid c =
-    rw c.in-At.is
-    (let a = c.args in
-    c.length_refusal-then-is_coord_valid.ensures
-    ∙ sym
-    (passed_then OffBoard (length_answer a.height a.width a.length)
-    (off-not-on a.height a.width c.in-At.row c.in-At.column ∙ ap not (sym c.is_coord_valid.ensures ∙ c.if-is_coord_valid.true))))
-
-pub returns-in-Stones : goal.returns-in-Stones
-returns-in-Stones c = rw c.in-Stones.is c.length_refusal.ensures
+    (then-accepted _ _ (accepted-so c.length_refusal-in-Coloured.ensures c.in_ok-length_refusal-in-Coloured.was)
+    ∙ refuses BadColour (lt-ltb _ _ c.if-colour-gt-WHITE.true)))
 
 pub returns-else-colour-gt-WHITE : goal.returns-else-colour-gt-WHITE
-unfolding number
 returns-else-colour-gt-WHITE c =
     rw c.in-Coloured.is
     (sym
-    (ap number
-    (then-accepted _ _ (accepts-zero _ (sym c.length_refusal-short.ensures ∙ c.if-short-ne-ACCEPTED.false))
-    ∙ passes BadColour (le-ltb _ _ c.if-colour-gt-WHITE.false))))
+    (then-accepted _ _ (accepted-so c.length_refusal-in-Coloured.ensures c.in_ok-length_refusal-in-Coloured.was)
+    ∙ passes BadColour (le-ltb _ _ c.if-colour-gt-WHITE.false)))
 
-pub returns-else-is_coord_valid : goal.returns-else-is_coord_valid
-unfolding number
-returns-else-is_coord_valid c =
+pub returns-then-not-is_coord_valid : goal.returns-then-not-is_coord_valid
+returns-then-not-is_coord_valid c =
+    let a = c.args in
     rw c.in-At.is
-    (let a = c.args in
-    sym
-    (refused-then OffBoard (length_answer a.height a.width a.length) (λ (z : ◌≡◌ {A = ℕ} 5 0). omega arith)
-    (off-not-on a.height a.width c.in-At.row c.in-At.column ∙ ap not (sym c.is_coord_valid.ensures ∙ c.if-is_coord_valid.false))))
+    (sym
+    (test-refuses OffBoard _ (reason-refuses Refusals.OffBoard)
+    (off-not-on a.height a.width c.in-At.row c.in-At.column ∙ ap not (sym c.is_coord_valid.ensures ∙ c.if-not-is_coord_valid.true))))
+
+pub returns-else-not-is_coord_valid : goal.returns-else-not-is_coord_valid
+returns-else-not-is_coord_valid c =
+    let a = c.args in
+    rw c.in-At.is
+    (c.length_refusal-in-At.ensures
+    ∙ sym
+    (test-passes OffBoard _
+    (off-not-on a.height a.width c.in-At.row c.in-At.column ∙ ap not (sym c.is_coord_valid.ensures ∙ c.if-not-is_coord_valid.false))))

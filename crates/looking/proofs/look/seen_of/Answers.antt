@@ -1,7 +1,4 @@
-use mathlib.Core.Path.{◌≡◌, sym, ap, ◌∙◌, subst}
-use mathlib.Core.List.{List}
-use Prim.Native.Nat.{ℕ, ◌<◌}
-use native.Mathlib.Omega.{arith}
+use Rattle.std.proofs.Common.{◌≡◌, ◌<◌, arith, sym, ap, ◌∙◌, subst, List, ℕ}
 use Rattle.rules.specs.Sizes.{max_area, slots}
 use Rattle.rules.specs.Lists.{tabulate}
 use Rattle.rules.specs.Colours.{at}
@@ -25,51 +22,24 @@ shown c =
     let p = c.loop-point.point in
     let low : p < max_area = c.loop-point-test.true in
     elim c.if-owner-lt-SLOTS.branch [
-      | then-owner-lt-SLOTS w ↦ w.seen-is ∙ w.stone_seen-chain.ensures ∙ ap chain_seen (chain-read b is p low _ c.index-owner.ensures w.if-owner-lt-SLOTS.true _)
-      | else-owner-lt-SLOTS w ↦ w.seen-is ∙ c.nothing_seen-seen.ensures ∙ nothing_read b is p low _ c.index-owner.ensures w.if-owner-lt-SLOTS.false
+      | then-owner-lt-SLOTS w ↦ w.seen-is ∙ w.stone_seen-seen.ensures ∙ ap chain_seen (chain-read b is p low _ c.from-owner.ensures w.if-owner-lt-SLOTS.true _)
+      | else-owner-lt-SLOTS w ↦ w.seen-is ∙ w.nothing_seen-seen.ensures ∙ nothing_read b is p low _ c.from-owner.ensures w.if-owner-lt-SLOTS.false
     ]
 
 pub loop-point-init : goal.loop-point-init
-loop-point-init c =
-    record {
-      within = omega arith;
-      colours = none_yet _;
-      liberties = none_yet _;
-      stones = none_yet _;
-    }
+loop-point-init c = record { colours = none_yet _; liberties = none_yet _; stones = none_yet _ }
 
-pub stone_seen-chain-requires : goal.stone_seen-chain-requires
-stone_seen-chain-requires c =
+pub stone_seen-seen-requires : goal.stone_seen-seen-requires
+stone_seen-seen-requires c =
     let b = c.args.board in
     let is = c.requires in
     let p = c.loop-point.point in
     let low : p < max_area = c.loop-point-test.true in
-    let its = c.index-owner.ensures in
-    let below : c.index-owner.result < slots = c.if-owner-lt-SLOTS.true in
+    let its = c.from-owner.ensures in
+    let below : c.from-owner.result < slots = c.if-owner-lt-SLOTS.true in
     let done = c.loop-point.invariant.liberties in
     subst (λ (x : Chain). Counted x c.loop-point.liberties p) (sym (chain-read b is p low _ its below _))
-    (first_counted b is p (λ z. let e = owner-read b is p low _ its ∙ z in omega arith) _ done.long low done.read)
-
-pub bounds-colours-point : goal.bounds-colours-point
-bounds-colours-point c = omega (arith, c.loop-point-test.true)
-
-pub offset_bounds-liberties-point : goal.offset_bounds-liberties-point
-offset_bounds-liberties-point c = omega (arith, c.loop-point-test.true)
-
-pub bounds-liberties-point : goal.bounds-liberties-point
-bounds-liberties-point c = omega (arith, c.loop-point-test.true)
-
-pub offset_bounds-stones-point : goal.offset_bounds-stones-point
-offset_bounds-stones-point c = omega (arith, c.loop-point-test.true)
-
-pub bounds-stones-point : goal.bounds-stones-point
-bounds-stones-point c = omega (arith, c.loop-point-test.true)
-
-pub overflow_add-point : goal.overflow_add-point
-overflow_add-point c = omega (arith, c.loop-point-test.true)
-
-pub loop-point-smaller : goal.loop-point-smaller
-loop-point-smaller c = omega (arith, c.loop-point-test.true)
+    (first_counted b is p (λ z. let e = owner-read b is p low _ its ∙ z in omega arith) _ low done.read)
 
 pub loop-point-preserved : goal.loop-point-preserved
 loop-point-preserved c =
@@ -77,11 +47,11 @@ loop-point-preserved c =
     let is = c.requires in
     let p = c.loop-point.point in
     let h : p < max_area = c.loop-point-test.true in
+    let here = shown (goal.at.loop-point-preserved c).Joined-owner-lt-SLOTS in
     record {
-      within = omega arith;
-      colours = more (at (colours_of b)) _ p _ c.loop-point.invariant.colours h (ap (λ (x : Beside). x.colour) (shown (goal.at.loop-point-preserved c).Joined-owner-lt-SLOTS) ∙ colour-told b is p);
-      liberties = more (liberties_at b) _ p _ c.loop-point.invariant.liberties h (ap (λ (x : Beside). x.liberties) (shown (goal.at.loop-point-preserved c).Joined-owner-lt-SLOTS) ∙ liberties-told b is p);
-      stones = more (stones_at b) _ p _ c.loop-point.invariant.stones h (ap (λ (x : Beside). x.stones) (shown (goal.at.loop-point-preserved c).Joined-owner-lt-SLOTS) ∙ stones-told b is p);
+      colours = more (at (colours_of b)) _ p _ c.loop-point.invariant.colours h (ap (λ (x : Beside). x.colour) here ∙ colour-told b is p);
+      liberties = more (liberties_at b) _ p _ c.loop-point.invariant.liberties h (ap (λ (x : Beside). x.liberties) here ∙ liberties-told b is p);
+      stones = more (stones_at b) _ p _ c.loop-point.invariant.stones h (ap (λ (x : Beside). x.stones) here ∙ stones-told b is p);
     }
 
 pub returns : goal.returns

@@ -6,15 +6,11 @@ use lib.ListN.{get_or}
 use Rattle.looking.specs.Seen.{chain_seen}
 use Rattle.looking.proofs.look.stone_seen.Goals as goal
 
-pub bounds-liberties-origin : goal.bounds-liberties-origin
-bounds-liberties-origin c =
-    omega (arith, c.if-origin-point.true, c.requires.within)
-
 pub returns-then-origin-point : goal.returns-then-origin-point
 unfolding chain_seen
 returns-then-origin-point c =
     let own = c.args.chain in
-    let its = c.index-origin.ensures in
+    let its = c.from-origin.ensures in
     let before : own.origin < c.args.point = omega (arith, c.if-origin-point.true, its) in
     let there = ap (λ (o : ℕ). get_or c.args.liberties.now o 0) its ∙ c.requires.first before in
     λ i. record { colour = own.colour; liberties = there i; stones = own.count }

@@ -1,5 +1,5 @@
 -- `making::make::from_colours`: the tests in the order of 01, each with what the ones before it told.
-use mathlib.Core.Path.{◌≡◌, refl, sym, ◌∙◌}
+use mathlib.Core.Path.{◌≡◌, refl, sym, ap, ◌∙◌}
 use mathlib.Core.Bool.{true, false}
 use lib.Dec.{ltb}
 use lib.ListN.{length}
@@ -13,7 +13,7 @@ use Rattle.placing.specs.Placing.{Stands, Outcome}
 use Rattle.making.specs.Laws.FromColours.{stands-placing, placed-sized}
 use Rattle.rules.proofs.Laws.Answers.{zero-accepts, other-refuses}
 use Rattle.placing.specs.Laws.Answers.{outcome-refused, outcome-accepted, outcome-as}
-use Rattle.making.specs.Laws.FromColours.{board-size, board-length, board-colour, board-choked}
+use Rattle.making.specs.Laws.FromColours.{board-size, board-length, board-colour, board-choked, refused-as}
 use Rattle.making.proofs.make.from_colours.Goals.{After-place-placed, Else-any_unknown, Else-colours-area, Else-new-ne-ACCEPTED}
 use Rattle.making.proofs.make.from_colours.Goals as goal
 
@@ -37,7 +37,9 @@ all_tested :
     (c : Else-any_unknown) →
     let a = c.args in
     board_answer a.height a.width a.colours.now ≡ refuse NoLiberty (choked a.height a.width a.colours.now)
-all_tested c = let sized_here : accepts (size_answer c.args.height c.args.width) ≡ true = zero-accepts _ _ c.new_board-new.ensures.outcome.answered c.if-new-ne-ACCEPTED.false in let covers_here : let a = c.args in length a.colours.now ≡ area a.height a.width = c.if-colours-area.false ∙ c.area.ensures in board-choked _ _ _ (sized_here) (covers_here) (known c)
+all_tested c =
+    let sized-here = zero-accepts _ _ c.new_board-new.ensures.outcome.answered c.if-new-ne-ACCEPTED.false in
+    board-choked _ _ _ sized-here (c.if-colours-area.false ∙ c.area.ensures) (known c)
 
 -- the new board
 made :
@@ -52,7 +54,9 @@ laid :
     let a = c.args in
     Outcome (refuse NoLiberty (choked a.height a.width a.colours.now)) a.height a.width a.colours.now
     c.new_board-new.result.board c.place-placed.result
-laid c = let sized_here : accepts (size_answer c.args.height c.args.width) ≡ true = zero-accepts _ _ c.new_board-new.ensures.outcome.answered c.if-new-ne-ACCEPTED.false in let made_here : let a = c.args in Stands a.height a.width (empty_board a.height a.width) c.new_board-new.result.board = c.new_board-new.ensures.outcome.placed (sized_here) in placed-sized _ _ _ (made_here) _ _ c.place-placed.ensures
+laid c =
+    let new = c.new_board-new.ensures.outcome in
+    placed-sized _ _ _ (new.placed (zero-accepts _ _ new.answered c.if-new-ne-ACCEPTED.false)) _ _ c.place-placed.ensures
 
 pub returns-then-new-ne-ACCEPTED : goal.returns-then-new-ne-ACCEPTED
 returns-then-new-ne-ACCEPTED c =
@@ -77,14 +81,16 @@ returns-then-any_unknown c =
 
 pub place-placed-requires : goal.place-placed-requires
 place-placed-requires c =
-    record { placing = stands-placing _ _ _ (made (goal.at.place-placed-requires c).Else-new-ne-ACCEPTED) _ (covers (goal.at.place-placed-requires c).Else-colours-area) (known (goal.at.place-placed-requires c).Else-any_unknown); numbers = c.table-numbers.ensures }
+    let at = goal.at.place-placed-requires c in
+    stands-placing _ _ _ (made at.Else-new-ne-ACCEPTED) _ (covers at.Else-colours-area) (known at.Else-any_unknown)
 
 pub returns-then-placed-ne-ACCEPTED : goal.returns-then-placed-ne-ACCEPTED
 returns-then-placed-ne-ACCEPTED c =
     let o = laid (goal.at.returns-then-placed-ne-ACCEPTED c).After-place-placed in
     let bad = other-refuses _ _ o.answered c.if-placed-ne-ACCEPTED.true in
+    let its = refused-as NoLiberty _ bad in
     outcome-as (sym (all_tested (goal.at.returns-then-placed-ne-ACCEPTED c).Else-any_unknown))
-    (outcome-refused (c.refused-then-placed-ne-ACCEPTED.ensures.0 ∙ o.answered) bad c.refused-then-placed-ne-ACCEPTED.ensures.1)
+    (outcome-refused (c.refused-then-placed-ne-ACCEPTED.ensures.0 ∙ ap number (sym its)) bad c.refused-then-placed-ne-ACCEPTED.ensures.1)
 
 pub returns : goal.returns
 returns c =

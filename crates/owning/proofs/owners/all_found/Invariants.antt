@@ -1,6 +1,5 @@
--- `all_found` meets its contract: what is good so far is what all points passed say. The measure is what is left.
+-- `all_found` meets its contract: what is good so far is what all points passed say.
 use mathlib.Core.Path.{◌≡◌}
-use Prim.Native.Nat.{◌≤◌, ◌-◌}
 use lib.Dec.{leb}
 use Rattle.rules.specs.Sizes.{slots}
 use Rattle.rules.specs.Lists.{all, below}
@@ -8,7 +7,4 @@ use Rattle.owning.specs.Owners.{owner_in}
 use Rattle.owning.proofs.owners.all_found.Given as goal
 
 abbrev pub invariant-loop-point : goal.invariant-loop-point
-invariant-loop-point l = (l.point ≤ l.end) × (l.good ≡ all (λ p. leb slots (owner_in l.notes p)) (below l.point))
-
-abbrev pub decreases-loop-point : goal.decreases-loop-point
-decreases-loop-point l = l.end - l.point
+invariant-loop-point l = l.good ≡ all (λ p. leb slots (owner_in l.notes p)) (below l.point)

@@ -1,13 +1,7 @@
-use mathlib.Core.Path.{◌≡◌, refl, sym, ap, ap₂, ◌∙◌}
-use mathlib.Core.Bool.{Bool, cond, ◌&&◌}
-use Prim.Native.Nat.{ℕ, ◌≤◌, ◌<◌}
-use native.Mathlib.Omega.{arith}
-use lib.Dec.{eqb, leb}
-use lib.ListN.{length, get_or}
-use mathlib.Core.List.{List}
+use Rattle.std.proofs.Common.{◌≡◌, ◌∙◌, ◌&&◌, Bool, ℕ, List, refl, sym, ap, ap₂, arith, leb, eqb, cond, length, get_or, ◌<◌, ◌≤◌}
 use borrow.Author.Tests.{lt-ltb, le-ltb}
-use Rattle.rules.specs.Sizes.{max_area, slots}
-use Rattle.rules.specs.Lists.{all, below}
+use Rattle.rules.specs.Sizes.{slots}
+use Rattle.rules.specs.Lists.{below}
 use Rattle.rules.specs.Points.{area}
 use Rattle.rules.proofs.Laws.Lists.{get_d_default}
 use Rattle.owning.specs.Owners.{owner_in, placed}
@@ -25,42 +19,16 @@ module _ (h w : ℕ) (owners : List ℕ) (p : ℕ) (within : p < length owners) 
 
 pub loop-point-init : goal.loop-point-init
 unfolding below
-loop-point-init c = (omega arith, refl)
-
-pub offset_bounds-owners-point : goal.offset_bounds-owners-point
-offset_bounds-owners-point c = omega (arith, c.area-end.ensures, c.requires.1)
-
-pub bounds-owners-point : goal.bounds-owners-point
-bounds-owners-point c = omega (arith, c.area-end.ensures, c.requires.1)
+loop-point-init c = refl
 
 pub loop-point-preserved : goal.loop-point-preserved
 loop-point-preserved c =
     let a = c.args in
-    let p = c.loop-point.point in (
-      omega arith,
-      ap₂ ◌&&◌ c.loop-point.invariant.1
-          (on a.height a.width a.owners.now p (omega (arith, c.area-end.ensures, c.requires.0, c.requires.1)) (omega (arith, c.area-end.ensures)))
-          ∙ sym (all-below-next (placed a.height a.width (owner_in a.owners.now)) p),
-    )
-
-pub loop-point-2-init : goal.loop-point-2-init
-loop-point-2-init c =
-    (c.loop-point-test.false, omega (arith, c.loop-point.invariant.0, c.area-end.ensures, c.requires.1), c.loop-point.invariant.1)
+    ap₂ ◌&&◌ c.loop-point.invariant (on a.height a.width a.owners.now c.loop-point.point (omega arith) (omega arith))
+    ∙ sym (all-below-next (placed a.height a.width (owner_in a.owners.now)) c.loop-point.point)
 
 pub loop-point-2-preserved : goal.loop-point-2-preserved
 loop-point-2-preserved c =
     let a = c.args in
-    let p = c.loop-point-2.point in
-    let was = c.loop-point-2.invariant in (
-      omega (arith, was.0),
-      omega arith,
-      ap₂ ◌&&◌ was.2
-          (beyond a.height a.width a.owners.now p (omega (arith, c.requires.0)) (omega (arith, was.0, c.area-end.ensures)))
-          ∙ sym (all-below-next (placed a.height a.width (owner_in a.owners.now)) p),
-    )
-
-pub returns : goal.returns
-returns c =
-    let a = c.args in
-    c.loop-point-2.invariant.2
-    ∙ ap (λ (n : ℕ). all (placed a.height a.width (owner_in a.owners.now)) (below n)) (let done : c.loop-point-2.point ≡ max_area = omega (arith, c.loop-point-2.invariant.1) in done)
+    ap₂ ◌&&◌ c.loop-point-2.invariant (beyond a.height a.width a.owners.now c.loop-point-2.point (omega arith) (omega arith))
+    ∙ sym (all-below-next (placed a.height a.width (owner_in a.owners.now)) c.loop-point-2.point)

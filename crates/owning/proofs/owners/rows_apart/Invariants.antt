@@ -1,12 +1,8 @@
--- `rows_apart` meets its contract: what is good so far is what all points passed say; the first begins a row. The measure is what is left.
+-- `rows_apart` meets its contract: what is good so far is what all points passed say; the first begins a row.
 use mathlib.Core.Path.{◌≡◌}
-use Prim.Native.Nat.{◌≤◌, ◌<◌, ◌-◌}
 use Rattle.rules.specs.Lists.{all, below}
 use Rattle.owning.specs.Owners.{owner_in, row_apart}
 use Rattle.owning.proofs.owners.rows_apart.Given as goal
 
 abbrev pub invariant-loop-point : goal.invariant-loop-point
-invariant-loop-point l = (0 < l.point) × (l.point ≤ l.end) × (l.good ≡ all (row_apart (owner_in l.owners) (owner_in l.notes) l.width) (below l.point))
-
-abbrev pub decreases-loop-point : goal.decreases-loop-point
-decreases-loop-point l = l.end - l.point
+invariant-loop-point l = l.good ≡ all (row_apart (owner_in l.owners) (owner_in l.notes) l.width) (below l.point)

@@ -6,7 +6,7 @@ use native.Mathlib.Numerals.{add-one}
 use native.Mathlib.Omega.{arith}
 use lib.Dec.{eqb, ltb}
 use lib.ListN.{get_or}
-use borrow.Author.Count.{below_none, below_more}
+use borrow.Author.Count.{below_more}
 use borrow.Author.Tests.{eqb-true, eq-eqb, ne_eqb}
 use Rattle.rules.specs.Sizes.{max_area, slots}
 use Rattle.rules.specs.Lists.{all, below}
@@ -40,13 +40,13 @@ inside c =
     let p = c.loop-links.point in
     let e : owner_in a.owners.now p ≡ a.slot =
     eqb-true _ _ (and_left (eqb (owner_in a.owners.now p) a.slot) _ (sym c.on_ring.ensures ∙ c.if-not-on_ring.false)) in
-    let n : owner_in a.owners.now p ≢ slots = λ z. omega (arith, c.requires.2) in
-    omega (arith, get_or-within a.owners.now p slots n, c.requires.0)
+    let n : owner_in a.owners.now p ≢ slots = λ z. omega (arith, c.requires) in
+    omega (arith, get_or-within a.owners.now p slots n)
 
 -- ---- After as many links as the chain has stones
 
 done : (c : After-loop-links) → c.loop-links.links ≡ c.args.chain.count
-done c = omega (arith, c.index-count.ensures, c.loop-links.invariant.within)
+done c = omega arith
 
 came-by : (c : After-loop-links)
     → let a = c.args in
@@ -67,29 +67,19 @@ went-round : (c : After-loop-links)
     all (on_ring (owner_in a.owners.now) a.next.now a.slot a.chain) (below a.chain.count) ≡ true
 went-round c = all-below _ _ (λ k l. c.loop-links.invariant.on k (omega (arith, done c)))
 
-pub loop-links-init : goal.loop-links-init
-loop-links-init c = record { within = omega arith; at = c.index-origin.ensures; before = c.index-origin.ensures; on = below_none _ }
-
-pub on_ring-requires : goal.on_ring-requires
-on_ring-requires c = c.requires.0
-
 pub returns-then-not-on_ring : goal.returns-then-not-on_ring
 unfolding ring
 returns-then-not-on_ring c =
-    sym (and-fails _ (all-fails-below _ _ c.loop-links.links (omega (arith, c.index-count.ensures)) (tested (goal.at.returns-then-not-on_ring c).After-on_ring ∙ c.if-not-on_ring.true)))
-
-pub offset_bounds-next-point : goal.offset_bounds-next-point
-offset_bounds-next-point c = omega (arith, inside (goal.at.offset_bounds-next-point c).Else-not-on_ring)
+    sym (and-fails _ (all-fails-below _ _ c.loop-links.links (omega arith) (tested (goal.at.returns-then-not-on_ring c).After-on_ring ∙ c.if-not-on_ring.true)))
 
 pub bounds-next-point : goal.bounds-next-point
-bounds-next-point c = omega (arith, inside (goal.at.bounds-next-point c).Else-not-on_ring)
+bounds-next-point c = inside (goal.at.bounds-next-point c).Else-not-on_ring
 
 pub loop-links-preserved : goal.loop-links-preserved
 loop-links-preserved c =
     let a = c.args in
     let was = c.loop-links.invariant in
     record {
-      within = omega arith;
       at = rw add-one (c.index-point.ensures ∙ ap (λ (p : ℕ). get_or a.next.now p 0) was.at);
       before = was.at ∙ ap (stepped a.next.now a.chain.origin) (back c.loop-links.links);
       on = below_more _ _ was.on (tested (goal.at.loop-links-preserved c).After-on_ring ∙ c.if-not-on_ring.false);

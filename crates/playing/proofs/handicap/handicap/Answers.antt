@@ -7,46 +7,40 @@ use Rattle.rules.specs.Answers.{number}
 use Rattle.rules.proofs.Laws.Lists.{not-both}
 use Rattle.placing.specs.Placing.{spots_of}
 use Rattle.game.specs.View.{TrueState}
-use Rattle.game.specs.Judge.{Decides}
-use Rattle.game.specs.Laws.Judge.{decides-state}
 use Rattle.game.specs.Laws.Promise.{alone-damaged}
 use Rattle.playing.specs.After.{handicap_given}
 use Rattle.playing.specs.Laws.Count.{true-few}
 use Rattle.playing.specs.Laws.Handicap.{spots-length, handicap-late, start-bare, handicap-refused, spots-few, handicap-laid}
-use Rattle.playing.proofs.handicap.handicap.Goals.{After-numbers_fit, Else-not-numbers_fit, Else-placed-ne-ACCEPTED}
+use Rattle.playing.proofs.handicap.handicap.Goals.{Else-not-judge_state, Else-placed-ne-ACCEPTED}
 use Rattle.playing.proofs.handicap.handicap.Goals as goal
 
--- both judges together are the judge of the state
-judge : (c : After-numbers_fit) → let a = c.args in Decides c.numbers_fit.result (TrueState a.game)
-judge c = decides-state c.clock_of-clock.ensures (c.judged-found.ensures.sound, (c.judged-found.ensures.complete, (c.judged-found.ensures.blacks, c.judged-found.ensures.whites))) c.numbers_fit.ensures
-
-judged : (c : Else-not-numbers_fit) → TrueState c.args.game
-judged c = let judge_here : let a = c.args in Decides c.numbers_fit.result (TrueState a.game) = decides-state c.clock_of-clock.ensures (c.judged-found.ensures.sound, (c.judged-found.ensures.complete, (c.judged-found.ensures.blacks, c.judged-found.ensures.whites))) c.numbers_fit.ensures in (judge_here).sound (c.if-not-numbers_fit.false)
+good : (c : Else-not-judge_state) → TrueState c.args.game
+good c = c.judge_state.ensures.sound c.if-not-judge_state.false
 
 -- the board took them all, so they are no more than its points
 few : (c : Else-placed-ne-ACCEPTED) → length c.args.spots.now ≤ max_area
-few c = let judge_here : let a = c.args in Decides c.numbers_fit.result (TrueState a.game) = decides-state c.clock_of-clock.ensures (c.judged-found.ensures.sound, (c.judged-found.ensures.complete, (c.judged-found.ensures.blacks, c.judged-found.ensures.whites))) c.numbers_fit.ensures in let judged_here : TrueState c.args.game = (judge_here).sound (c.if-not-numbers_fit.false) in
+few c =
     let spots = c.args.spots.now in
     omega (
       arith,
-      spots-few _ (judged_here) (spots_of spots) c.if-answered-ne0.false c.lay_handicap-placed.result c.lay_handicap-placed.ensures c.if-placed-ne-ACCEPTED.false,
+      spots-few _ (c.judge_state.ensures.sound c.if-not-judge_state.false) (spots_of spots) c.if-answered-ne0.false c.lay_handicap-placed.result c.lay_handicap-placed.ensures c.if-placed-ne-ACCEPTED.false,
       spots-length spots,
     )
 
-pub returns-then-not-numbers_fit : goal.returns-then-not-numbers_fit
+pub returns-then-not-judge_state : goal.returns-then-not-judge_state
 unfolding number
-returns-then-not-numbers_fit c = alone-damaged _ _ (λ is. not-both ((judge (goal.at.returns-then-not-numbers_fit c).After-numbers_fit).complete is) (c.if-not-numbers_fit.true))
+returns-then-not-judge_state c = alone-damaged _ _ (λ is. not-both (c.judge_state.ensures.complete is) c.if-not-judge_state.true)
 
 pub returns-then-answered-ne0 : goal.returns-then-answered-ne0
 unfolding number
-returns-then-answered-ne0 c = handicap-late _ (judged (goal.at.returns-then-answered-ne0 c).Else-not-numbers_fit) _ c.if-answered-ne0.true
+returns-then-answered-ne0 c = handicap-late _ (good (goal.at.returns-then-answered-ne0 c).Else-not-judge_state) _ c.if-answered-ne0.true
 
 pub lay_handicap-placed-requires : goal.lay_handicap-placed-requires
-lay_handicap-placed-requires c = start-bare _ (judged (goal.at.lay_handicap-placed-requires c).Else-not-numbers_fit) c.if-answered-ne0.false
+lay_handicap-placed-requires c = start-bare _ (good (goal.at.lay_handicap-placed-requires c).Else-not-judge_state) c.if-answered-ne0.false
 
 pub returns-then-placed-ne-ACCEPTED : goal.returns-then-placed-ne-ACCEPTED
 returns-then-placed-ne-ACCEPTED c =
-    handicap-refused _ (judged (goal.at.returns-then-placed-ne-ACCEPTED c).Else-not-numbers_fit) _ c.if-answered-ne0.false c.lay_handicap-placed.result c.lay_handicap-placed.ensures c.if-placed-ne-ACCEPTED.true
+    handicap-refused _ (good (goal.at.returns-then-placed-ne-ACCEPTED c).Else-not-judge_state) _ c.if-answered-ne0.false c.lay_handicap-placed.result c.lay_handicap-placed.ensures c.if-placed-ne-ACCEPTED.true
 
 pub overflow_cast-count : goal.overflow_cast-count
 overflow_cast-count c = let most = few (goal.at.overflow_cast-count c).Else-placed-ne-ACCEPTED in record { fits = omega arith }
@@ -57,12 +51,12 @@ overflow_cast-put c = let most = few (goal.at.overflow_cast-put c).Else-placed-n
 pub overflow_add-put : goal.overflow_add-put
 overflow_add-put c =
     let most = few (goal.at.overflow_add-put c).Else-placed-ne-ACCEPTED in
-    let put = (true-few _ (judged (goal.at.overflow_add-put c).Else-not-numbers_fit)).1 in
+    let put = (true-few _ (good (goal.at.overflow_add-put c).Else-not-judge_state)).1 in
     record { fits = omega (arith, put.blacks) }
 
 pub returns : goal.returns
 unfolding handicap_given
 returns c =
     let spots = c.args.spots.now in
-    handicap-laid _ (judged (goal.at.returns c).Else-not-numbers_fit) (spots_of spots) c.if-answered-ne0.false c.lay_handicap-placed.result c.lay_handicap-placed.ensures c.if-placed-ne-ACCEPTED.false
+    handicap-laid _ (good (goal.at.returns c).Else-not-judge_state) (spots_of spots) c.if-answered-ne0.false c.lay_handicap-placed.result c.lay_handicap-placed.ensures c.if-placed-ne-ACCEPTED.false
     (spots-length spots)

@@ -17,11 +17,9 @@ unfolding game_of
 lay-laid-requires c =
     let a = c.args in
     let is = c.requires.shown in
-    let w = c.requires.waits in record {
-      laying = laying (game_of a.board.now a.clock) a.history.now c.requires.row c.requires.column is.state is.room w.told w.its _ refl w.passes
-          is.sees.point c.player_of.ensures;
-      numbers = c.table-numbers.ensures;
-    }
+    let w = c.requires.waits in
+    laying (game_of a.board.now a.clock) a.history.now c.requires.row c.requires.column is.state is.room w.told w.its _ refl w.passes
+    is.sees.point c.player_of.ensures
 
 pub look_at-seen-requires : goal.look_at-seen-requires
 look_at-seen-requires c = record { true_board = c.lay-laid.ensures.board; partly = unread _ }

@@ -3,11 +3,8 @@ use borrow.Author.Tests.{lt-ltb, le-ltb}
 use Prim.Native.Nat.{◌+◌}
 use native.Mathlib.Omega.{arith}
 use Rattle.rules.specs.Points.{shifted}
+use Rattle.points.proofs.Grid.{back_is}
 use Rattle.points.proofs.coord.shifted.Goals as goal
-
-pub returns-then-x-gt0 : goal.returns-then-x-gt0
-unfolding shifted
-returns-then-x-gt0 c = rw (c.in-Back.is, lt-ltb _ _ c.if-x-gt0.true)
 
 pub returns-then-n-x : goal.returns-then-n-x
 unfolding shifted
@@ -17,10 +14,6 @@ pub returns-then-x-n : goal.returns-then-x-n
 unfolding shifted
 returns-then-x-n c = rw (c.in-Forth.is, lt-ltb _ _ c.if-x-n.true)
 
-pub returns-else-x-gt0 : goal.returns-else-x-gt0
-unfolding shifted
-returns-else-x-gt0 c = rw (c.in-Back.is, le-ltb _ _ c.if-x-gt0.false)
-
 pub returns-in-Stay : goal.returns-in-Stay
 unfolding shifted
 returns-in-Stay c = rw c.in-Stay.is
@@ -28,3 +21,7 @@ returns-in-Stay c = rw c.in-Stay.is
 pub returns-else-x-n : goal.returns-else-x-n
 unfolding shifted
 returns-else-x-n c = rw (c.in-Forth.is, le-ltb _ _ c.if-x-n.false)
+
+pub returns-in-Back : goal.returns-in-Back
+unfolding shifted
+returns-in-Back c = rw c.in-Back.is (back_is c.checked_sub.result c.args.x c.checked_sub.ensures)

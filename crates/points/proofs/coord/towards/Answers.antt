@@ -18,5 +18,5 @@ stepped-requires c =
 pub returns : goal.returns
 returns c =
     let a = c.args in
-    rw c.stepped.ensures.result_value
+    rw c.stepped.ensures
     (spot-towards a.height a.width a.point _ _ (omega arith) c.row_of.ensures c.column_of.ensures _ _)

@@ -1,29 +1,42 @@
 -- `read_text`: the first byte, then the first word, then the words behind it.
-use mathlib.Core.Path.{sym, ap, ◌∙◌, subst}
-use Rattle.lines.specs.Command.{Command, command_of}
+use Rattle.std.proofs.Common.{◌≡◌, sym, ap, ◌∙◌, subst, rules, Err}
+use Rattle.spelling.specs.Steps.{spelled}
+use Rattle.lines.specs.Command.{Command, called}
 use Rattle.lines.specs.Reads.{Reads}
-use Rattle.spelling.specs.Steps.{part}
 use Rattle.lines.specs.Steps.{Plainly}
 use Rattle.lines.specs.declared.command.Fault.TheVariants as faults
 use Rattle.lines.specs.Laws.Calls.{wrong-reads}
-use Rattle.reading.specs.Laws.Line.{echo-reads, given-empty, given-hash, given-words, given-called}
+use Rattle.reading.specs.Laws.Line.{echo-reads, given-empty, given-hash, given-blank, given-called}
+use Rattle.reading.proofs.line.read_text.Goals.{then-is_empty-via-then-is_empty, then-is_empty-via-else-is_empty+then-text-eq-HASH}
 use Rattle.reading.proofs.line.read_text.Goals as goal
 
-pub returns-then-text-eq0 : goal.returns-then-text-eq0
+pub returns-then-is_empty : goal.returns-then-is_empty
 unfolding Plainly
-returns-then-text-eq0 c = echo-reads (given-empty _ c.if-text-eq0.true) _
+returns-then-is_empty c =
+    elim c.then-is_empty.branch [
+      | then-is_empty-via-then-is_empty w ↦ echo-reads (given-empty _ w.if-is_empty.ensures) _
+      | then-is_empty-via-else-is_empty+then-text-eq-HASH w ↦ echo-reads (given-hash _ w.if-text-eq-HASH.true) _
+    ]
 
-pub returns-then-text-eq-HASH : goal.returns-then-text-eq-HASH
+pub returns-in_err-word : goal.returns-in_err-word
 unfolding Plainly
-returns-then-text-eq-HASH c = echo-reads (given-hash _ c.if-text-eq-HASH.true) _
+returns-in_err-word c =
+    let e : c.from_residual.result ≡ Err faults.Blank = search rules in
+    let none_left = c.next_word.ensures.parted ∙ ap spelled c.in_err-word.ensures.ok_part in
+    rw e (wrong-reads faults.Blank (given-blank _ c.if-is_empty.ensures c.if-text-eq-HASH.false none_left) _)
 
-pub returns-then-start-end : goal.returns-then-start-end
-unfolding Plainly command_of
-returns-then-start-end c = wrong-reads faults.Blank (given-words _ c.if-text-eq0.false c.if-text-eq-HASH.false ∙ ap command_of (c.next_word-word.ensures.missing c.if-start-end.true)) _
+pub returns-in_err-name : goal.returns-in_err-name
+unfolding Plainly called
+returns-in_err-name c =
+    let e : c.from_residual-in_err-name.result ≡ Err faults.Unknown = search rules in
+    let first = c.next_word.ensures.parted ∙ ap spelled c.in_ok-word.ensures.ok_part in
+    rw e
+    (wrong-reads faults.Unknown
+    (given-called _ c.if-is_empty.ensures c.if-text-eq-HASH.false _ first (sym c.in_err-name.ensures.ok_part ∙ c.name_of.ensures)) _)
 
 pub returns : goal.returns
-unfolding part
 returns c =
+    let first = c.next_word.ensures.parted ∙ ap spelled c.in_ok-word.ensures.ok_part in
     subst (λ (x : Command). Reads x c.args.spots.now c.read_behind.result c.read_behind.new.spots)
-    (sym (given-called _ _ _ _ c.if-text-eq0.false c.if-text-eq-HASH.false (c.next_word-word.ensures.there c.if-start-end.false) c.name_of-name.ensures))
+    (sym (given-called _ c.if-is_empty.ensures c.if-text-eq-HASH.false _ first (sym c.in_ok-name.ensures.ok_part ∙ c.name_of.ensures)))
     c.read_behind.ensures

@@ -6,15 +6,15 @@ use Rattle.reporting.specs.Facts.{ko_number, outcome_number, no_facts, facts_of}
 use Rattle.reporting.specs.Laws.Facts.{ko-within, ko-told}
 use Rattle.reporting.proofs.facts.facts_of.Goals as goal
 
-pub ko_number-ko-requires : goal.ko_number-ko-requires
-ko_number-ko-requires c = ko-within _ _ c.facts_of-facts.ensures
+pub ko_number-requires : goal.ko_number-requires
+ko_number-requires c = ko-within _ _ c.facts_of-facts.ensures
 
 pub returns : goal.returns
 unfolding number no_facts facts_of asked.no_facts
 returns c =
     let a = c.facts_of-facts.ensures in
     record {
-      damaged = λ n. rw (c.outcome_number-outcome.ensures, ko-told _ _ c.ko_number-ko.ensures, a.damaged n);
+      damaged = λ n. rw (c.outcome_number.ensures, ko-told _ _ c.ko_number.ensures, a.damaged n);
       told =
           λ t i.
           record {
@@ -24,9 +24,9 @@ returns c =
             flags = (a.told t).flags i;
             turn = (a.told t).turn i;
             passes = (a.told t).passes i;
-            outcome = (c.outcome_number-outcome.ensures ∙ ap outcome_number (a.told t).outcome) i;
+            outcome = (c.outcome_number.ensures ∙ ap outcome_number (a.told t).outcome) i;
             over = (a.told t).over i;
-            ko = (ko-told _ _ c.ko_number-ko.ensures ∙ ap ko_number (a.told t).ko) i;
+            ko = (ko-told _ _ c.ko_number.ensures ∙ ap ko_number (a.told t).ko) i;
             handicap = (a.told t).handicap i;
             accepted = (a.told t).accepted i;
             prisoners = record { black = (a.told t).black_held i; white = (a.told t).white_held i };

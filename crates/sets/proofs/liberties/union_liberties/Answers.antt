@@ -1,10 +1,4 @@
-use mathlib.Core.Path.{◌≡◌, ap, ◌∙◌}
-use mathlib.Core.List.{List}
-use Prim.Native.Nat.{ℕ}
-use native.Mathlib.Omega.{arith}
-use lib.Bits.{bit_or}
-use lib.ListN.{get_or, set}
-use borrow.Author.Rules.{rules}
+use Rattle.std.proofs.Common.{◌≡◌, ◌∙◌, ℕ, ap, arith, rules}
 use Rattle.rules.specs.Sizes.{liberty_bytes}
 use Rattle.sets.specs.Liberties.{LibertySet}
 use Rattle.sets.proofs.Arrays.{array-set}
@@ -20,18 +14,15 @@ second : (c : Start) → LibertySet c.args.b
 second c = array-set c.args.b (search rules) (λ i. search rules)
 
 pub loop-i-init : goal.loop-i-init
-loop-i-init c = (omega arith, merged-none c.args.a c.args.b)
+loop-i-init c = merged-none c.args.a c.args.b
 
 pub loop-i-preserved : goal.loop-i-preserved
 loop-i-preserved c =
-    let i = c.loop-i.i in (
-      omega arith,
-      ap (λ (r : List ℕ). set r i (bit_or (get_or c.args.a i 0) (get_or c.args.b i 0))) c.loop-i.invariant.1
-          ∙ merged-more i c.args.a c.args.b (omega (arith, (first (goal.at.loop-i-preserved c).Start).long)) (omega (arith, (second (goal.at.loop-i-preserved c).Start).long)),
-    )
+    merged-more c.loop-i.i c.args.a c.args.b _ (omega (arith, (first (goal.at.loop-i-preserved c).Start).long))
+    (omega (arith, (second (goal.at.loop-i-preserved c).Start).long)) c.loop-i.invariant
 
 pub returns : goal.returns
 returns c =
     let past : c.loop-i.i ≡ liberty_bytes = omega arith in
-    c.loop-i.invariant.1 ∙ ap (λ (i : ℕ). merged i c.args.a c.args.b) past
+    c.loop-i.invariant ∙ ap (λ (i : ℕ). merged i c.args.a c.args.b) past
     ∙ merged-is c.args.a c.args.b (first (goal.at.returns c).Start) (second (goal.at.returns c).Start)

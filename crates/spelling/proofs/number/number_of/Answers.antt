@@ -1,21 +1,14 @@
-use native.Mathlib.Omega.{arith}
-use Rattle.spelling.specs.Laws.Number.{digit-yes, digit_low, digit-high, growing-none, growing-more, growing-not, growing-whole}
+use Rattle.std.proofs.Common.{arith}
+use Rattle.spelling.specs.Laws.Number.{digit-is, growing-more, growing-not, growing-whole}
 use Rattle.spelling.proofs.number.number_of.Goals as goal
 
-pub loop-at-init : goal.loop-at-init
-loop-at-init c = growing-none _
+pub returns-then-not-is_ascii_digit : goal.returns-then-not-is_ascii_digit
+returns-then-not-is_ascii_digit c =
+    growing-not _ c.loop-digit.invariant (omega arith) (digit-is _ c.if-not-is_ascii_digit.ensures.value)
 
-pub returns-then-digit-lt-FIRST_DIGIT : goal.returns-then-digit-lt-FIRST_DIGIT
-returns-then-digit-lt-FIRST_DIGIT c =
-    growing-not _ c.loop-at.invariant (omega arith) (digit_low _ c.if-digit-lt-FIRST_DIGIT.true)
-
-pub returns-then-digit-gt-LAST_DIGIT : goal.returns-then-digit-gt-LAST_DIGIT
-returns-then-digit-gt-LAST_DIGIT c =
-    growing-not _ c.loop-at.invariant (omega arith) (digit-high _ c.if-digit-lt-FIRST_DIGIT.false c.if-digit-gt-LAST_DIGIT.true)
-
-pub loop-at-preserved : goal.loop-at-preserved
-loop-at-preserved c =
-    growing-more _ _ c.loop-at.invariant (omega arith) (digit-yes _ c.if-digit-lt-FIRST_DIGIT.false c.if-digit-gt-LAST_DIGIT.false) c.grow-number.ensures
+pub loop-digit-preserved : goal.loop-digit-preserved
+loop-digit-preserved c =
+    growing-more _ _ c.loop-digit.invariant (omega arith) (digit-is _ c.if-not-is_ascii_digit.ensures.value) c.grow-number.ensures
 
 pub returns : goal.returns
-returns c = growing-whole _ c.loop-at.invariant (omega arith)
+returns c = growing-whole _ c.loop-digit.invariant (omega arith)

@@ -1,11 +1,6 @@
--- `number_of`: all before the place are digits, and the number is theirs. The measure is what is left of the word.
-use Prim.Native.Nat.{◌-◌}
-use lib.ListN.{length}
+-- `number_of`: all before the place are digits, and the number is theirs.
 use Rattle.spelling.specs.Laws.Number.{Growing}
 use Rattle.spelling.proofs.number.number_of.Given as goal
 
-abbrev pub invariant-loop-at : goal.invariant-loop-at
-invariant-loop-at l = Growing l.word l.number l.at
-
-abbrev pub decreases-loop-at : goal.decreases-loop-at
-decreases-loop-at l = length l.word - l.at
+abbrev pub invariant-loop-digit : goal.invariant-loop-digit
+invariant-loop-digit l = Growing l.word l.number l.digit-index

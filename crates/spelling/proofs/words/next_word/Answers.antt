@@ -1,18 +1,14 @@
--- `next_word`: blanks are skipped, and the word behind them is gone through.
-use Prim.Native.Nat.{◌<◌}
-use native.Mathlib.Omega.{arith}
-use lib.ListN.{length}
-use Rattle.spelling.specs.Laws.Text.{parted-none, parted-some}
+-- `next_word`: blanks are skipped, and the bytes up to the next blank are the word.
+use Rattle.std.proofs.Common.{ap₂, ◌∙◌, sym, List, ℕ, ◌∷◌}
+use Rattle.spelling.specs.Text.{words}
+use Rattle.spelling.specs.Laws.Text.{words-none, words-some}
 use Rattle.spelling.proofs.words.next_word.Goals as goal
 
-pub returns-then-start-text : goal.returns-then-start-text
-returns-then-start-text c = parted-none _ c.skip_blanks-start.ensures c.if-start-text.true
+pub returns-then-end-eq0-clause-parted : goal.returns-then-end-eq0-clause-parted
+returns-then-end-eq0-clause-parted c =
+    words-none _ _ _ c.blanks.ensures.counted c.letters-end.ensures.counted c.if-end-eq0.true
 
-pub word_end-end-requires : goal.word_end-end-requires
-word_end-end-requires c =
-    let s = c.skip_blanks-start.ensures in
-    let l : c.skip_blanks-start.result < length c.args.text.now = omega (arith, s.within, c.if-start-text.false) in
-    (l, s.stopped l)
-
-pub returns : goal.returns
-returns c = parted-some _ c.skip_blanks-start.ensures c.word_end-end.ensures
+pub returns-clause-parted : goal.returns-clause-parted
+returns-clause-parted c =
+    words-some _ _ _ c.blanks.ensures.counted c.letters-end.ensures.counted c.if-end-eq0.false
+    ∙ ap₂ {C = List (List ℕ)} (λ (w behind : List ℕ). w ∷ words behind) (sym c.split_at.ensures.front) (sym c.split_at.ensures.back)

@@ -1,21 +1,12 @@
--- `queries::answers::answer_at`: the board decides first, then the test of the row and the column.
-use Rattle.std.proofs.Common.{false, not, ap}
-use Rattle.rules.specs.Answers.{number}
-use Rattle.vetting.specs.Laws.Answered.{judged-kept, judged-beyond, judged-accepted, valid-says}
+-- `vetting::answers::answer_at`: the board is a true one, and the test of the row and the column decides.
+use Rattle.std.proofs.Common.{not, ap}
+use Rattle.vetting.specs.Laws.Answered.{judged-beyond, judged-accepted, valid-says}
 use Rattle.vetting.proofs.answers.answer_at.Goals as goal
 
-pub returns-then-answer-ne-ACCEPTED : goal.returns-then-answer-ne-ACCEPTED
-unfolding number
-returns-then-answer-ne-ACCEPTED c = judged-kept false _ c.answer_of-answer.ensures c.if-answer-ne-ACCEPTED.true
-
 pub returns-then-not-is_coord_valid : goal.returns-then-not-is_coord_valid
-unfolding number
 returns-then-not-is_coord_valid c =
-    judged-beyond (c.answer_of-answer.ensures.sound c.if-answer-ne-ACCEPTED.false).0
-    (valid-says _ _ _ c.is_coord_valid.ensures (ap not c.if-not-is_coord_valid.true))
+    judged-beyond (c.answer_of.ensures.sound c.in_ok-answer_of.was).0 (valid-says _ _ _ c.is_coord_valid.ensures (ap not c.if-not-is_coord_valid.true))
 
 pub returns : goal.returns
-unfolding number
 returns c =
-    judged-accepted (c.answer_of-answer.ensures.sound c.if-answer-ne-ACCEPTED.false).0
-    (valid-says _ _ _ c.is_coord_valid.ensures (ap not c.if-not-is_coord_valid.false))
+    judged-accepted (c.answer_of.ensures.sound c.in_ok-answer_of.was).0 (valid-says _ _ _ c.is_coord_valid.ensures (ap not c.if-not-is_coord_valid.false))

@@ -1,13 +1,8 @@
--- `put_hex`: the digits of the first bytes stand there. The measure is how many bytes are left.
-use mathlib.Core.Path.{◌≡◌}
-use Prim.Native.Nat.{◌+◌, ◌*◌, ◌-◌, ◌≤◌}
-use lib.ListN.{length, take}
+-- `put_hex`: the digits of the first bytes stand behind what was there.
+use Rattle.std.proofs.Common.{◌≡◌, ◌+◌, ◌*◌, ◌++◌, length, take}
 use Rattle.writing.specs.Figures.{hex}
-use Rattle.writing.specs.Put.{Put}
 use Rattle.writing.proofs.figures.put_hex.Given as goal
 
-abbrev pub invariant-loop-i : goal.invariant-loop-i
-invariant-loop-i l = (l.i ≤ length l.bytes) × (l.at ≡ l.from + 2 * l.i) × Put (hex (take l.i l.bytes)) l.initial.out l.from l.at l.out
-
-abbrev pub decreases-loop-i : goal.decreases-loop-i
-decreases-loop-i l = length l.bytes - l.i
+abbrev pub invariant-loop-byte : goal.invariant-loop-byte
+invariant-loop-byte l =
+    (length l.out.items ≡ length l.initial.out.items + 2 * l.byte-index) × (l.out.items ≡ l.initial.out.items ++ hex (take l.byte-index l.bytes))

@@ -1,0 +1,2 @@
+-- What is proved about the counts.
+pub mod Slots

@@ -1,9 +1,0 @@
--- `laying::lay::joins`: either way, by the first test.
-use borrow.Author.Tests.{eq-eqb, ne_eqb}
-use Rattle.laying.proofs.lay.joins.Goals as goal
-
-pub returns-then-chain-colour : goal.returns-then-chain-colour
-returns-then-chain-colour c = rw (eq-eqb _ _ c.if-chain-colour.true)
-
-pub returns-else-chain-colour : goal.returns-else-chain-colour
-returns-else-chain-colour c = rw (ne_eqb _ _ c.if-chain-colour.false)

@@ -1,2 +1,0 @@
--- What is proved about the definitions. A law stands in the file that is named after its subject.
-pub mod Around

@@ -1,2 +1,0 @@
--- What keeping a line promises.
-pub mod Kept
