@@ -1,5 +1,5 @@
 // The words of a text: runs of bytes between blanks.
-ghost use Rattle.std.specs.Prelude.{◌≡◌, ◌≤◌, ◌<◌, length, IfSome};
+ghost use Rattle.std.specs.Prelude.{◌≡◌, ◌++◌, ◌≤◌, ◌<◌, length, drop, IfSome};
 ghost use Rattle.spelling.specs.Text.{text_of, blank, words};
 ghost use Rattle.spelling.specs.Steps.{blanks, letters, ended, spelled};
 
@@ -44,6 +44,7 @@ fn letters(text: &[u8]) -> usize
 pub fn next_word(text: &[u8]) -> Option<Word>
     ensures parted { words text.now ≡ spelled result }
     ensures shorter { IfSome result (λ word. length word.behind.now < length text.now) }
+    ensures cut { IfSome result (λ word. word.bytes.now ++ word.behind.now ≡ drop (blanks text.now) text.now) }
 {
     let word = &text[blanks(text)..];
     let end = letters(word);

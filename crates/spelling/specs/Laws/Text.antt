@@ -1,9 +1,9 @@
 -- Laws of Text: the words by the first byte, and by the first word.
-use Rattle.std.specs.Prelude.{◌≡◌, refl, Bool, true, false, cond, not, ◌&&◌, List, [], ◌∷◌, ℕ, suc, ◌+◌, ◌-◌, eqb, length, get_or, take, drop, Option, None, Some, MatchOption}
+use Rattle.std.specs.Prelude.{◌≡◌, refl, Bool, true, false, cond, not, ◌&&◌, List, [], ◌∷◌, ◌++◌, ℕ, suc, ◌+◌, ◌-◌, eqb, length, get_or, take, drop, Option, None, Some, MatchOption}
 use Rattle.std.specs.List.{prefix_len}
 use Rattle.std.specs.Option.{unwrap_or}
 use Rattle.std.specs.Cmp.Lexicographic.{pointwise}
-use Rattle.std.proofs.Common.{Bor, sym, ap, ap₂, ◌∙◌, subst, ⊎_elim, arith, one-add}
+use Rattle.std.proofs.Common.{Bor, sym, ap, ap₂, ◌∙◌, subst, ⊎_elim, arith, one-add, take-append-drop}
 use Rattle.std.proofs.lemmas.List.{take_rest, drop_all}
 use Rattle.std.proofs.Math.Seq.{drop-cons, take-length}
 use Rattle.rules.proofs.Laws.Lists.{decided}
@@ -104,6 +104,10 @@ module _ (text : List ℕ) (i n : ℕ) (e : i ≡ blanks text) (f : n ≡ letter
 
   cut : n ≡ letters rest
   cut = f ∙ ap letters its
+
+  pub words-whole : take n (take (length text - i) (drop i text)) ++ drop n (take (length text - i) (drop i text)) ≡ drop (blanks text) text
+  unfolding rest
+  words-whole = take-append-drop n (take (length text - i) (drop i text)) ∙ its
 
   pub words-none : n ≡ 0 → words text ≡ []
   unfolding words rest
