@@ -1,5 +1,5 @@
 // The words behind the name of a call are read.
-ghost use Rattle.std.specs.Prelude.{◌≡◌, ◌+◌, ◌*◌, Ok};
+ghost use Rattle.std.specs.Prelude.{◌≡◌, ◌+◌, ◌*◌};
 ghost use Rattle.rules.specs.Lists.{same};
 ghost use Rattle.spelling.specs.Text.{words};
 ghost use Rattle.spelling.specs.Number.{numbers, byte_of};
@@ -136,12 +136,12 @@ pub fn read_handicap(text: &[u8], spots: &mut [u16]) -> Result<Read, Fault>
     Ok(Read::Handicap(pairs))
 }
 
-// A call with no words behind its name.
-pub fn read_alone(text: &[u8], read: Read) -> Result<Read, Fault>
-    ensures { (command : commands.Command) → Plainly command (Ok read) → Plainly (alone command (words text.now)) result }
+// A call with no words behind its name, or what is wrong with it already.
+pub fn read_alone(text: &[u8], read: Result<Read, Fault>) -> Result<Read, Fault>
+    ensures { (command : commands.Command) → Plainly command read → Plainly (alone command (words text.now)) result }
 {
     if at_end(text) {
-        Ok(read)
+        read
     } else {
         Err(Fault::Alone)
     }

@@ -2,8 +2,9 @@
 ghost use Rattle.std.specs.Prelude.{◌≡◌, ◌+◌, ◌≤◌, ◌++◌, length};
 ghost use Rattle.objecting.specs.Faults.{fault};
 
+use arrayvec::ArrayVec;
 use lines::command::Fault;
-use writing::text::{REPLY_BYTES, Text, put_text};
+use writing::text::put_text;
 
 // The words for it.
 fn words(wrong: Fault) -> &'static [u8]
@@ -26,8 +27,8 @@ fn words(wrong: Fault) -> &'static [u8]
     }
 }
 
-pub fn put_fault(out: &mut Text, wrong: Fault)
-    requires { length out.old.items + 64 ≤ REPLY_BYTES }
+pub fn put_fault<const CAPACITY: usize>(out: &mut ArrayVec<u8, CAPACITY>, wrong: Fault)
+    requires { length out.old.items + 64 ≤ CAPACITY }
     ensures put { out.new.items ≡ out.old.items ++ fault wrong }
     ensures upper_bound { length out.new.items ≤ length out.old.items + 64 }
 {

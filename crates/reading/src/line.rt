@@ -59,13 +59,13 @@ fn read_behind(text: &[u8], name: Name, spots: &mut [u16]) -> Result<Read, Fault
         Name::New => read_new(text),
         Name::Handicap => read_handicap(text, spots),
         Name::Stone => read_stone(text),
-        Name::Pass => read_alone(text, Read::Pass),
+        Name::Pass => read_alone(text, Ok(Read::Pass)),
         Name::Resign => read_resign(text),
-        Name::Resume => read_alone(text, Read::Resume),
+        Name::Resume => read_alone(text, Ok(Read::Resume)),
         Name::Check => read_check(text),
         Name::Legals => read_legals(text),
-        Name::State => read_alone(text, Read::State),
-        Name::Render => read_alone(text, Read::Render),
+        Name::State => read_alone(text, Ok(Read::State)),
+        Name::Render => read_alone(text, Ok(Read::Render)),
     }
 }
 

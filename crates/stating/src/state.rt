@@ -4,6 +4,7 @@ ghost use Rattle.writing.specs.Figures.{spaced};
 ghost use Rattle.stating.specs.State.{player, named};
 ghost use Rattle.stating.specs.Said.{told, Stated};
 
+use arrayvec::ArrayVec;
 use drawing::draw::to_vec;
 use game::asks::{Facts, facts_of};
 use game::state::Game;
@@ -11,9 +12,8 @@ use points::answers::ACCEPTED;
 use points::coord::area;
 use points::sizes::MAX_AREA;
 use points::stones::{EMPTY, WHITE};
-use wording::replies::{put_place, put_rows};
+use wording::replies::{DASH, SPACE, put_place, put_rows};
 use writing::figures::{put_number, put_spaced};
-use writing::text::{REPLY_BYTES, Text};
 
 // B or W.
 #[tactic(auto, unfolding(crate::specs::State::player))]
@@ -24,22 +24,22 @@ fn player_sign(colour: u8) -> u8
 }
 
 #[tactic(auto, unfolding(writing::specs::Figures::spaced))]
-fn put_outcome(out: &mut Text, outcome: Option<u8>)
-    requires { length out.old.items + 2 ≤ REPLY_BYTES }
+fn put_outcome<const CAPACITY: usize>(out: &mut ArrayVec<u8, CAPACITY>, outcome: Option<u8>)
+    requires { length out.old.items + 2 ≤ CAPACITY }
     ensures put { out.new.items ≡ out.old.items ++ spaced (named outcome) }
     ensures upper_bound { length out.new.items ≤ length out.old.items + 2 }
 {
-    out.push(b' ');
+    out.push(SPACE);
     match outcome {
-        None => out.push(b'-'),
+        None => out.push(DASH),
         Some(colour) => out.push(player_sign(colour)),
     }
 }
 
 // Turn, passes, prisoners, ko point, outcome and records.
 #[tactic(auto, unfolding(crate::specs::Said::told, crate::specs::State::facts))]
-fn put_facts(out: &mut Text, facts: Facts)
-    requires { length out.old.items + 130 ≤ REPLY_BYTES }
+fn put_facts<const CAPACITY: usize>(out: &mut ArrayVec<u8, CAPACITY>, facts: Facts)
+    requires { length out.old.items + 130 ≤ CAPACITY }
     ensures put { out.new.items ≡ out.old.items ++ told facts }
     ensures upper_bound { length out.new.items ≤ length out.old.items + 130 }
 {
@@ -54,8 +54,8 @@ fn put_facts(out: &mut Text, facts: Facts)
 }
 
 // The state of a game, or 3 where it is not true.
-pub fn put_state(out: &mut Text, game: Game)
-    requires { length out.old.items + 1024 ≤ REPLY_BYTES }
+pub fn put_state<const CAPACITY: usize>(out: &mut ArrayVec<u8, CAPACITY>, game: Game)
+    requires { length out.old.items + 1024 ≤ CAPACITY }
     ensures { Stated game out.old.items out.new.items }
 {
     let facts = facts_of(game);
@@ -67,7 +67,7 @@ pub fn put_state(out: &mut Text, game: Game)
     let mut colours = [EMPTY; MAX_AREA];
     to_vec(board, &mut colours);
     put_facts(out, facts);
-    out.push(b' ');
+    out.push(SPACE);
     put_rows(
         out,
         board.width,

@@ -3,10 +3,10 @@ ghost use Rattle.std.specs.Prelude.{◌+◌, ◌≤◌, length};
 ghost use Rattle.lines.specs.Command.{max_line};
 ghost use Rattle.telling.specs.Told.{Tells};
 
+use arrayvec::ArrayVec;
 use game::calls::Answered;
 use game::state::Game;
 use writing::figures::put_number;
-use writing::text::{REPLY_BYTES, Text};
 
 // The game after a call, and how many bytes of history it is lent then.
 #[derive(Clone, Copy)]
@@ -16,8 +16,12 @@ pub struct Told {
 }
 
 // What a call answered is told.
-pub fn tell(answered: Answered, lent: usize, out: &mut Text) -> Told
-    requires { length out.old.items + max_line ≤ REPLY_BYTES }
+pub fn tell<const CAPACITY: usize>(
+    answered: Answered,
+    lent: usize,
+    out: &mut ArrayVec<u8, CAPACITY>,
+) -> Told
+    requires { length out.old.items + max_line ≤ CAPACITY }
     ensures { Tells answered.answer answered.game lent out.old.items result out.new.items }
 {
     put_number(out, u64::from(answered.answer));

@@ -3,21 +3,29 @@ ghost use Rattle.std.specs.Prelude.{◌≡◌, ◌+◌, ◌*◌, ◌≤◌, ◌+
 ghost use Rattle.wording.specs.Replies.{placed, sign, starts_row, point, rows_upto, each};
 ghost use Rattle.writing.specs.Figures.{spaced};
 
+use arrayvec::ArrayVec;
 use points::coord::{column_of, row_of};
 use points::stones::{BLACK, WHITE};
 use writing::figures::{put_number, put_spaced};
-use writing::text::{REPLY_BYTES, Text};
+
+pub const SPACE: u8 = b' ';
+
+pub const DASH: u8 = b'-';
 
 #[tactic(auto, unfolding(writing::specs::Figures::spaced))]
-pub fn put_place(out: &mut Text, width: u8, place: Option<usize>)
-    requires { length out.old.items + 42 ≤ REPLY_BYTES }
+pub fn put_place<const CAPACITY: usize>(
+    out: &mut ArrayVec<u8, CAPACITY>,
+    width: u8,
+    place: Option<usize>,
+)
+    requires { length out.old.items + 42 ≤ CAPACITY }
     ensures put { out.new.items ≡ out.old.items ++ spaced (placed width place) }
     ensures upper_bound { length out.new.items ≤ length out.old.items + 42 }
 {
     match place {
         None => {
-            out.push(b' ');
-            out.push(b'-');
+            out.push(SPACE);
+            out.push(DASH);
         }
         Some(point) => {
             put_spaced(out, row_of(width, point) as u64);
@@ -46,8 +54,8 @@ fn starts_row(width: u8, point: usize) -> bool
 }
 
 #[tactic(auto, unfolding(crate::specs::Replies::point))]
-fn put_point(out: &mut Text, starts: bool, colour: u8)
-    requires { length out.old.items + 2 ≤ REPLY_BYTES }
+fn put_point<const CAPACITY: usize>(out: &mut ArrayVec<u8, CAPACITY>, starts: bool, colour: u8)
+    requires { length out.old.items + 2 ≤ CAPACITY }
     ensures put { out.new.items ≡ out.old.items ++ point starts colour }
     ensures upper_bound { length out.new.items ≤ length out.old.items + 2 }
 {
@@ -58,8 +66,8 @@ fn put_point(out: &mut Text, starts: bool, colour: u8)
 }
 
 // The rows of a board's points, with a slash between.
-pub fn put_rows(out: &mut Text, width: u8, colours: &[u8])
-    requires { length out.old.items + 2 * length colours.now ≤ REPLY_BYTES }
+pub fn put_rows<const CAPACITY: usize>(out: &mut ArrayVec<u8, CAPACITY>, width: u8, colours: &[u8])
+    requires { length out.old.items + 2 * length colours.now ≤ CAPACITY }
     ensures put { out.new.items ≡ out.old.items ++ rows_upto width colours.now (length colours.now) }
     ensures upper_bound { length out.new.items ≤ length out.old.items + 2 * length colours.now }
 {
@@ -69,8 +77,8 @@ pub fn put_rows(out: &mut Text, width: u8, colours: &[u8])
 }
 
 // Points, each behind a space.
-pub fn put_points(out: &mut Text, points: &[u16])
-    requires { length out.old.items + 21 * length points.now ≤ REPLY_BYTES }
+pub fn put_points<const CAPACITY: usize>(out: &mut ArrayVec<u8, CAPACITY>, points: &[u16])
+    requires { length out.old.items + 21 * length points.now ≤ CAPACITY }
     ensures put { out.new.items ≡ out.old.items ++ each points.now }
     ensures upper_bound { length out.new.items ≤ length out.old.items + 21 * length points.now }
 {

@@ -2,11 +2,12 @@
 ghost use Rattle.std.specs.Prelude.{◌≡◌, ◌+◌, ◌*◌, ◌≤◌, ◌<◌, ◌++◌, length};
 ghost use Rattle.writing.specs.Figures.{decimal, spaced, hex_digit, hex};
 
-use crate::text::{REPLY_BYTES, Text, put_text};
+use crate::text::put_text;
+use arrayvec::ArrayVec;
 
 // The digits of a number.
-pub fn put_number(out: &mut Text, number: u64)
-    requires { length out.old.items + 20 ≤ REPLY_BYTES }
+pub fn put_number<const CAPACITY: usize>(out: &mut ArrayVec<u8, CAPACITY>, number: u64)
+    requires { length out.old.items + 20 ≤ CAPACITY }
     ensures put { out.new.items ≡ out.old.items ++ decimal number }
     ensures upper_bound { length out.new.items ≤ length out.old.items + 20 }
 {
@@ -17,8 +18,8 @@ pub fn put_number(out: &mut Text, number: u64)
 
 // A space and the digits of a number.
 #[tactic(auto, unfolding(crate::specs::Figures::spaced))]
-pub fn put_spaced(out: &mut Text, number: u64)
-    requires { length out.old.items + 21 ≤ REPLY_BYTES }
+pub fn put_spaced<const CAPACITY: usize>(out: &mut ArrayVec<u8, CAPACITY>, number: u64)
+    requires { length out.old.items + 21 ≤ CAPACITY }
     ensures put { out.new.items ≡ out.old.items ++ spaced (decimal number) }
     ensures upper_bound { length out.new.items ≤ length out.old.items + 21 }
 {
@@ -38,8 +39,8 @@ fn hex_digit(digit: u8) -> u8
 }
 
 // Two digits a byte.
-pub fn put_hex(out: &mut Text, bytes: &[u8])
-    requires { length out.old.items + 2 * length bytes.now ≤ REPLY_BYTES }
+pub fn put_hex<const CAPACITY: usize>(out: &mut ArrayVec<u8, CAPACITY>, bytes: &[u8])
+    requires { length out.old.items + 2 * length bytes.now ≤ CAPACITY }
     ensures { out.new.items ≡ out.old.items ++ hex bytes.now }
 {
     for &byte in bytes {

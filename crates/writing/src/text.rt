@@ -10,8 +10,9 @@ pub const REPLY_BYTES: usize = MAX_LINE + 1;
 // The text so far.
 pub type Text = ArrayVec<u8, REPLY_BYTES>;
 
-pub fn put_text(out: &mut Text, text: &[u8])
-    requires { length out.old.items + length text.now ≤ REPLY_BYTES }
+// A text behind what is there, in a vector of any capacity that has room for it.
+pub fn put_text<const CAPACITY: usize>(out: &mut ArrayVec<u8, CAPACITY>, text: &[u8])
+    requires { length out.old.items + length text.now ≤ CAPACITY }
     ensures { out.new.items ≡ out.old.items ++ text.now }
 {
     for &byte in text {

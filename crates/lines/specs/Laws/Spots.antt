@@ -97,47 +97,61 @@ unfolding numeral
 numeral-none None e = refl
 numeral-none (Some m) e = absurd (none-some (min m most) e)
 
--- what is no pair at the front names no spot
-odd : (w : Option ℕ) (spot : Spot) (others : List Spot) → handicap_of (consed w (Some [])) ≡ Handicap (spot ∷ others) → ⊥
-unfolding consed handicap_of spotted pairs
-odd None spot others e = no-handicap e
-odd (Some n) spot others e = no-handicap e
+-- a word that writes no number
+unwritten : {ws : List (List ℕ)} {word : List ℕ} {others : List (List ℕ)} → ws ≡ word ∷ others → None ≡ numeral (number_of word) → numbers ws ≡ None
+unfolding numbers consed
+unwritten {ws} {word} {others} e f = ap numbers e ∙ ap (λ (w : Option ℕ). consed w (numbers others)) (numeral-none (number_of word) f)
 
-broken : (w : Option ℕ) (o : Option (List ℕ)) (spot : Spot) (others : List Spot) → handicap_of (consed w (consed None o)) ≡ Handicap (spot ∷ others) → ⊥
-unfolding consed handicap_of
-broken None o spot others e = no-handicap e
-broken (Some n) o spot others e = no-handicap e
+-- words that name no spot, whatever was read of them
+module _ (text : List ℕ) where
+  pub spotted-end : words text ≡ [] → (r : Option NextSpot) → Spotted text r
+  unfolding Spotted Names numbers handicap_of spotted pairs
+  spotted-end e r spot others its = absurd (no-spot (sym (ap (λ (ws : List (List ℕ)). handicap_of (numbers ws)) e) ∙ its))
 
-pub spotted-end : (text : List ℕ) → words text ≡ [] → Spotted text None
-unfolding Spotted Names numbers handicap_of spotted pairs
-spotted-end text e spot others its = no-spot (sym (ap (λ (ws : List (List ℕ)). handicap_of (numbers ws)) e) ∙ its)
+  pub spotted-bad : numbers (words text) ≡ None → (r : Option NextSpot) → Spotted text r
+  unfolding Spotted Names handicap_of
+  spotted-bad e r spot others its = absurd (no-handicap (sym (ap handicap_of e) ∙ its))
 
+-- a row, if it is a number, and the numbers of the words behind it
+module _ (text second : List ℕ) (row : Option ℕ) (e : numbers (words text) ≡ consed row (numbers (words second))) where
+  -- a row with no column behind it is none
+  pub spotted-odd : words second ≡ [] → (r : Option NextSpot) → Spotted text r
+  unfolding Spotted Names numbers consed handicap_of spotted pairs
+  spotted-odd f r spot others its =
+      absurd (alone row (sym (ap handicap_of (e ∙ ap (λ (ws : List (List ℕ)). consed row (numbers ws)) f)) ∙ its))
+    where
+      alone : (w : Option ℕ) → handicap_of (consed w (Some [])) ≡ Handicap (spot ∷ others) → ⊥
+      alone None z = no-handicap z
+      alone (Some n) z = no-handicap z
+
+  pub spotted-broken : numbers (words second) ≡ None → (r : Option NextSpot) → Spotted text r
+  unfolding consed
+  spotted-broken f = spotted-bad text (e ∙ ap (consed row) f ∙ nothing row)
+    where
+      nothing : (w : Option ℕ) → consed w None ≡ None
+      nothing None = refl
+      nothing (Some n) = refl
+
+-- the same by the words, one after the other
 module _ (text : List ℕ) {row : List ℕ} (second : List ℕ) (e : words text ≡ row ∷ words second) where
   -- the numbers, by the row and those behind it
-  front : handicap_of (numbers (words text)) ≡ handicap_of (consed (number_of row) (numbers (words second)))
+  front : numbers (words text) ≡ consed (number_of row) (numbers (words second))
   unfolding numbers
-  front = ap (λ (ws : List (List ℕ)). handicap_of (numbers ws)) e
+  front = ap numbers e
 
-  pub spotted-odd : words second ≡ [] → Spotted text None
-  unfolding Spotted Names numbers
-  spotted-odd f spot others its =
-      odd (number_of row) spot others (sym (front ∙ ap (λ (ws : List (List ℕ)). handicap_of (consed (number_of row) (numbers ws))) f) ∙ its)
+  pub row-alone : words second ≡ [] → (r : Option NextSpot) → Spotted text r
+  row-alone = spotted-odd text second (number_of row) front
 
-  pub spotted-bad : None ≡ numeral (number_of row) → Spotted text None
-  unfolding Spotted Names consed handicap_of
-  spotted-bad f spot others its =
-      no-handicap (sym (front ∙ ap (λ (w : Option ℕ). handicap_of (consed w (numbers (words second)))) (numeral-none (number_of row) f)) ∙ its)
+  pub row-bad : None ≡ numeral (number_of row) → (r : Option NextSpot) → Spotted text r
+  row-bad f = spotted-bad text (unwritten e f)
 
   module _ {column : List ℕ} (behind : List ℕ) (f : words second ≡ column ∷ words behind) where
+    pub column-bad : None ≡ numeral (number_of column) → (r : Option NextSpot) → Spotted text r
+    column-bad g = spotted-broken text second (number_of row) front (unwritten f g)
+
     both : handicap_of (numbers (words text)) ≡ handicap_of (consed (number_of row) (consed (number_of column) (numbers (words behind))))
     unfolding numbers
-    both = front ∙ ap (λ (ws : List (List ℕ)). handicap_of (consed (number_of row) (numbers ws))) f
-
-    pub spotted-broken : None ≡ numeral (number_of column) → Spotted text None
-    unfolding Spotted Names
-    spotted-broken g spot others its =
-        broken (number_of row) (numbers (words behind)) spot others
-        (sym (both ∙ ap (λ (w : Option ℕ). handicap_of (consed (number_of row) (consed w (numbers (words behind))))) (numeral-none (number_of column) g)) ∙ its)
+    both = ap handicap_of (front ∙ ap (λ (ws : List (List ℕ)). consed (number_of row) (numbers ws)) f)
 
     -- two numbers are a spot
     pub spotted-both : (r : NextSpot) {n m : ℕ} → Some n ≡ numeral (number_of row) → Some m ≡ numeral (number_of column) → r.spot ≡ 256 * byte_of n + byte_of m → r.behind.now ≡ behind → Spotted text (Some r)

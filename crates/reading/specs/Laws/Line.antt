@@ -29,22 +29,22 @@ unfolding given
 given-hash [] e = refl
 given-hash (b ∷ l) e = rw (eq-eqb b 35 e)
 
+pub given-words : (text : List ℕ) → (length text ≡ 0 → ⊥) → (get_or text 0 0 ≡ 35 → ⊥) → given text ≡ command_of (words text)
+unfolding given
+given-words [] n h = absurd (n refl)
+given-words (b ∷ l) n h = rw (ne_eqb b 35 h)
+
 module _ (text : List ℕ) (n : false ≡ eqb (length text) 0) (h : get_or text 0 0 ≡ 35 → ⊥) where
-  given-words : given text ≡ command_of (words text)
-  unfolding given
-  given-words = by text n h
-    where
-      by : (t : List ℕ) → false ≡ eqb (length t) 0 → (get_or t 0 0 ≡ 35 → ⊥) → given t ≡ command_of (words t)
-      by [] m k = absurd (false≢true m)
-      by (b ∷ l) m k = rw (ne_eqb b 35 k)
+  by-words : given text ≡ command_of (words text)
+  by-words = given-words text (λ e. false≢true (n ∙ eq-eqb (length text) 0 e)) h
 
   pub given-blank : words text ≡ [] → given text ≡ commands.Wrong faults.Blank
   unfolding command_of
-  given-blank e = given-words ∙ ap command_of e
+  given-blank e = by-words ∙ ap command_of e
 
   pub given-called : {word : List ℕ} {ws : List (List ℕ)} (name : Option Name) → words text ≡ word ∷ ws → name ≡ name_of word → given text ≡ called name ws
   unfolding command_of
-  given-called {word} {ws} name e f = given-words ∙ ap command_of e ∙ ap (λ (x : Option Name). called x ws) (sym f)
+  given-called {word} {ws} name e f = by-words ∙ ap command_of e ∙ ap (λ (x : Option Name). called x ws) (sym f)
 
 module _ (line : List ℕ) where
   pub text-within : text_length line ≤ length line

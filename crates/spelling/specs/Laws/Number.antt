@@ -1,16 +1,31 @@
 -- Laws of Number: a number that is capped while it grows is the number capped.
 use Rattle.std.specs.Prelude.{◌≡◌, refl, Bool, cond, ◌&&◌, length, get_or, None, Some}
 use Rattle.std.proofs.Math.Path.{sym, ap}
-use Rattle.std.proofs.Common.{◌∙◌, add-one, drop-cons}
+use Rattle.std.proofs.Common.{◌∙◌, add-one, drop-cons, le-leb}
 use Rattle.std.proofs.Math.Bool.{true, false}
 use mathlib.Core.List.{List, [], ◌∷◌}
 use Prim.Native.Nat.{ℕ, ◌+◌, ◌≤◌, ◌<◌, min}
 use native.Mathlib.Omega.{arith}
 use Rattle.std.proofs.Math.ListN.{drop, drop_of_length-le}
+use Rattle.std.proofs.lemmas.Bool.{lt-leb}
 use Rattle.std.specs.Char.{is_ascii_digit}
 use Rattle.rules.specs.Lists.{all}
-use Rattle.spelling.specs.Number.{digit, grown, value, number_of}
+use Rattle.spelling.specs.Number.{first_digit, last_digit, digit, grown, value, number_of}
 use Rattle.spelling.specs.Steps.{most, numeral}
+
+-- ---- Digits
+
+pub digit-yes : (b : ℕ) → first_digit ≤ b → b ≤ last_digit → digit b ≡ true
+unfolding digit
+digit-yes b l h = simp (le-leb _ _ l, le-leb _ _ h)
+
+pub digit_low : (b : ℕ) → b < first_digit → digit b ≡ false
+unfolding digit
+digit_low b l = simp (lt-leb _ _ l)
+
+pub digit-high : (b : ℕ) → first_digit ≤ b → last_digit < b → digit b ≡ false
+unfolding digit
+digit-high b l h = simp (le-leb _ _ l, lt-leb _ _ h)
 
 -- the library's word for a digit
 pub digit-is : (b : ℕ) {t : Bool} → t ≡ is_ascii_digit b → digit b ≡ t

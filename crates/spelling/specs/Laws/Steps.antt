@@ -145,20 +145,25 @@ unfolding count_of count_more
 count_none None = refl
 count_none (Some ns) = ap Some (sym (zero-add (length ns)))
 
+pub count-step : (k n : ℕ) (o : Option (List ℕ)) → count_more k (consed (Some n) o) ≡ count_more (k + 1) o
+unfolding consed count_more
+count-step k n None = refl
+count-step k n (Some ns) = ap Some (let e : k + length (n ∷ ns) ≡ k + 1 + length ns = omega arith in e)
+
 module _ (k : ℕ) {ws : List (List ℕ)} where
   pub count-last : ws ≡ [] → Some k ≡ count_more k (numbers ws)
   unfolding numbers count_more
   count-last e = sym (ap (λ (vs : List (List ℕ)). count_more k (numbers vs)) e ∙ ap Some (add-zero k))
 
   module _ {w : List ℕ} {others : List (List ℕ)} (e : ws ≡ w ∷ others) where
-    pub count-step : (n : ℕ) → Some n ≡ numeral (number_of w) → count_more k (numbers ws) ≡ count_more (k + 1) (numbers others)
-    unfolding numbers numeral consed count_more
-    count-step n f = ap (λ (vs : List (List ℕ)). count_more k (numbers vs)) e ∙ more (number_of w) (numbers others) f
+    -- a word that writes a number
+    pub count-good : (n : ℕ) → Some n ≡ numeral (number_of w) → count_more k (numbers ws) ≡ count_more (k + 1) (numbers others)
+    unfolding numbers numeral
+    count-good n f = ap (λ (vs : List (List ℕ)). count_more k (numbers vs)) e ∙ more (number_of w) (numbers others) f
       where
         more : (v : Option ℕ) (o : Option (List ℕ)) → Some n ≡ numeral v → count_more k (consed v o) ≡ count_more (k + 1) o
         more None o f = absurd (none-some n (sym f))
-        more (Some m) None f = refl
-        more (Some m) (Some ns) f = ap Some (let g : k + length (m ∷ ns) ≡ k + 1 + length ns = omega arith in g)
+        more (Some m) o f = count-step k m o
 
     pub count-bad : None ≡ numeral (number_of w) → count_more k (numbers ws) ≡ None
     unfolding numbers numeral consed count_more

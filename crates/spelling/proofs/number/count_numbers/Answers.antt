@@ -1,5 +1,5 @@
 use Rattle.std.proofs.Common.{◌∙◌, sym, arith}
-use Rattle.spelling.specs.Laws.Steps.{count_none, count-bad, count-step, count-last}
+use Rattle.spelling.specs.Laws.Steps.{count_none, count-bad, count-good, count-last}
 use Rattle.spelling.proofs.number.count_numbers.Goals as goal
 
 pub loop-word-init : goal.loop-word-init
@@ -11,7 +11,7 @@ returns-in_err-number_of c =
 
 pub loop-word-preserved : goal.loop-word-preserved
 loop-word-preserved c =
-    (omega (arith, c.in-Some.ensures.shorter), c.loop-word.invariant.1 ∙ count-step _ c.in-Some.ensures.parted _ c.in_ok-number_of.ensures)
+    (omega (arith, c.in-Some.ensures.shorter), c.loop-word.invariant.1 ∙ count-good _ c.in-Some.ensures.parted _ c.in_ok-number_of.ensures)
 
 pub returns : goal.returns
 returns c = count-last _ c.in_default.ensures.parted ∙ sym c.loop-word.invariant.1

@@ -9,7 +9,7 @@ use Rattle.stating.proofs.state.put_state.Goals as goal
 
 pub returns-then-facts-ne-ACCEPTED : goal.returns-then-facts-ne-ACCEPTED
 unfolding number no_facts
-returns-then-facts-ne-ACCEPTED c =
+returns-then-facts-ne-ACCEPTED g c =
     let facts = c.facts_of-facts in
     record {
       stated = λ is. absurd (c.if-facts-ne-ACCEPTED.true (facts.ensures.told is).answer);
@@ -18,21 +18,21 @@ returns-then-facts-ne-ACCEPTED c =
     }
 
 -- the points of the board are a part of the buffer
-fits : (c : After-area) → c.area.result ≤ length c.to_vec.new.buffer
-fits c = omega (arith, c.area.ensures, area-undamaged _ _ c.facts_of-facts.ensures c.if-facts-ne-ACCEPTED.false, c.to_vec.auto.buffer)
+fits : (g : _) (c : After-area g) → c.area.result ≤ length c.to_vec.new.buffer
+fits g c = omega (arith, c.area.ensures, area-undamaged _ _ c.facts_of-facts.ensures c.if-facts-ne-ACCEPTED.false, c.to_vec.auto.buffer)
 
 pub slice_bounds-colours-end : goal.slice_bounds-colours-end
-slice_bounds-colours-end c = fits (goal.at.slice_bounds-colours-end c).After-area
+slice_bounds-colours-end g c = fits g (goal.at.slice_bounds-colours-end g c).After-area
 
 pub slice_bounds-put_rows-end : goal.slice_bounds-put_rows-end
-slice_bounds-put_rows-end c = sym (length-take-le _ _ (fits (goal.at.slice_bounds-put_rows-end c).After-area))
+slice_bounds-put_rows-end g c = sym (length-take-le _ _ (fits g (goal.at.slice_bounds-put_rows-end g c).After-area))
 
 pub returns : goal.returns
-returns c =
+returns g c =
     let facts = c.facts_of-facts.ensures in
     let open' = c.if-facts-ne-ACCEPTED.false in
     let gap = c.push.ensures in
-    let l = fits (goal.at.returns c).After-area in
+    let l = fits g (goal.at.returns g c).After-area in
     record {
       stated = λ is.
           state-behind _ _ _ _ _ refl is facts c.to_vec.ensures _ _ c.put_facts.ensures.put gap.items c.put_rows.ensures.put c.area.ensures l;

@@ -4,7 +4,7 @@ use Rattle.wording.specs.Laws.Replies.{each_more}
 use Rattle.wording.proofs.replies.put_points.Goals as goal
 
 pub loop-point-preserved : goal.loop-point-preserved
-loop-point-preserved c =
+loop-point-preserved g c =
     let loop = c.loop-point in
     let one = c.put_spaced.ensures in (
       omega (arith, one.upper_bound),

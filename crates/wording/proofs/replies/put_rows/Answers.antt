@@ -6,7 +6,7 @@ use Rattle.wording.proofs.replies.put_rows.Goals as goal
 
 pub loop-point-preserved : goal.loop-point-preserved
 unfolding at
-loop-point-preserved c =
+loop-point-preserved g c =
     let loop = c.loop-point in
     let one = c.put_point.ensures in (
       omega (arith, one.upper_bound),

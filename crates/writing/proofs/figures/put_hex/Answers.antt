@@ -3,7 +3,7 @@ use Rattle.writing.specs.Laws.Figures.{hex-more}
 use Rattle.writing.proofs.figures.put_hex.Goals as goal
 
 pub loop-byte-preserved : goal.loop-byte-preserved
-loop-byte-preserved c =
+loop-byte-preserved g c =
     let loop = c.loop-byte in
     let high = c.push.ensures in
     let low = c.push-in-loop-byte.ensures in (

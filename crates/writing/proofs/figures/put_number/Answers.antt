@@ -4,6 +4,6 @@ use Rattle.writing.specs.Laws.Figures.{fewest-decimal}
 use Rattle.writing.proofs.figures.put_number.Goals as goal
 
 pub returns-clause-put : goal.returns-clause-put
-returns-clause-put c =
+returns-clause-put g c =
     let d = c.decimal-count.ensures in
     c.put_text.ensures ∙ ap (λ (t : List ℕ). c.args.out.now.items ++ t) (d.digits ∙ fewest-decimal _ _ d.len)

@@ -3,4 +3,4 @@ use Rattle.std.proofs.Common.{◌≡◌, ◌++◌, take}
 use Rattle.writing.proofs.text.put_text.Given as goal
 
 abbrev pub invariant-loop-byte : goal.invariant-loop-byte
-invariant-loop-byte l = l.out.items ≡ l.initial.out.items ++ take l.byte-index l.text
+invariant-loop-byte g l = l.out.items ≡ l.initial.out.items ++ take l.byte-index l.text
