@@ -9,6 +9,7 @@ use Rattle.lines.specs.Command as commands
 use Rattle.objecting.specs.Faults.{fault}
 use Rattle.writing.specs.Put.{Put}
 use Rattle.answering.specs.declared.desk.Replied.{Replied}
+use Rattle.telling.specs.declared.calls.Told.{Told}
 use Rattle.telling.specs.Reply.{Reply, Stays, Starts, Calls, Lays, Checks}
 use Rattle.acting.specs.Reply.{Lists, States, Draws, Says}
 
@@ -32,6 +33,13 @@ reply_bytes = max_line + 1
 
 abbrev pub line_feed : ℕ
 line_feed = 10
+
+-- a text is the reply's and a line feed, and no longer than the longest
+pub record RepliesIn (line : List ℕ) (g : Game) (bytes : List ℕ) (r : Told) (bytes' after : List ℕ) : Type 0 where
+  pub text : List ℕ
+  pub does : Does line g bytes (record { text = text; game = r.game; lent = r.lent; bytes = bytes' }) (meaning line)
+  pub written : after ≡ text ++ (line_feed ∷ [])
+  pub whole : length after ≤ reply_bytes
 
 -- the reply's text and a line feed stand at the front of the buffer. One that is too short for a reply leaves everything as it was
 pub record Replies (line : List ℕ) (g : Game) (bytes before : List ℕ) (r : Replied) (bytes' after : List ℕ) : Type 0 where

@@ -1,10 +1,10 @@
 // Lines come in from a reader, and each reply goes out to a writer as soon as its line has ended.
 #![tactic(auto)]
 
-ghost use Rattle.std.specs.Prelude.{◌≡◌, length};
+ghost use Rattle.std.specs.Prelude.{[], ◌≡◌, ◌≤◌, ◌<◌, ◌∷◌, ◌++◌, length};
 ghost use Rattle.spelling.specs.Number.{max_lent};
 
-use answering::desk::{LINE_FEED, REPLY_BYTES, answer};
+use answering::desk::{LINE_FEED, Text, reply};
 use arrayvec::ArrayVec;
 use game::calls::new_game;
 use game::state::Game;
@@ -19,42 +19,47 @@ const LINE_BYTES: usize = MAX_LINE + 2;
 // How many bytes one read takes at most.
 const READ_BYTES: usize = 4096;
 
-// The game, the bytes of history that games are lent, how many of them it is, the bytes of a line that has not ended yet, and room for
-// a reply.
+// A byte of a line is kept while there is room.
+fn keep(line: &mut ArrayVec<u8, LINE_BYTES>, byte: u8)
+    ensures room { length line.old.items < LINE_BYTES → line.new.items ≡ line.old.items ++ byte ∷ [] }
+    ensures full { LINE_BYTES ≤ length line.old.items → line.new ≡ line.old }
+{
+    if !line.is_full() {
+        line.push(byte);
+    }
+}
+
+// The game, the bytes of history that games are lent, how many of them it is, the bytes of a line that has not ended yet, and the last reply.
 #[derive(Drop)]
 struct Desk<'a> {
     game: Game,
     history: &'a mut [u8],
     lent: usize,
     line: ArrayVec<u8, LINE_BYTES>,
-    out: &'a mut [u8],
+    text: Text,
 }
 
 impl<'a> Desk<'a> {
     // The line has ended: it is answered.
     fn end_line<W: Write>(&mut self, output: &mut W) -> io::Result<()> {
         let lent = self.lent.min(self.history.len());
-        let replied = answer(
+        let told = reply(
             self.game,
             &mut self.history[..lent],
             self.line.as_slice(),
-            self.out,
+            &mut self.text,
         );
-        self.game = replied.game;
-        self.lent = replied.lent;
+        self.game = told.game;
+        self.lent = told.lent;
         self.line.clear();
-        let count = replied.count.min(self.out.len());
-        output.write_all(&self.out[..count])
+        output.write_all(self.text.as_slice())
     }
 
-    // A byte of a line is kept while there is room.
     fn take_byte<W: Write>(&mut self, byte: u8, output: &mut W) -> io::Result<()> {
         if byte == LINE_FEED {
             return self.end_line(output);
         }
-        if !self.line.is_full() {
-            self.line.push(byte);
-        }
+        keep(&mut self.line, byte);
         Ok(())
     }
 
@@ -92,13 +97,12 @@ pub fn serve(rt: &(impl Input + Print)) -> io::Result<()> {
     let mut input = rt.reader();
     let mut output = io::writer(rt);
     let mut history = empty_history();
-    let mut out = [0u8; REPLY_BYTES];
     let mut desk = Desk {
         game: new_game(1, 1, 0).game,
         history: &mut history,
         lent: USUAL_LENT,
         line: ArrayVec::new(),
-        out: &mut out,
+        text: Text::new(),
     };
     desk.read_all(&mut input, &mut output)?;
     if !desk.line.is_empty() {

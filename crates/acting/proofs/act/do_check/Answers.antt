@@ -4,4 +4,4 @@ use Rattle.telling.specs.Laws.Told.{told-checks}
 use Rattle.acting.proofs.act.do_check.Goals as goal
 
 pub returns : goal.returns
-returns c = told-checks c.tell.ensures c.check_point_by-answer.ensures refl
+returns g c = told-checks c.tell.ensures c.check_point_by-answer.ensures refl

@@ -15,15 +15,15 @@ use Rattle.acting.specs.Laws.Lists.{listed-few, refused-text, damaged-text, acce
 use Rattle.acting.proofs.act.do_legals.Goals.{After-legals_by-listed}
 use Rattle.acting.proofs.act.do_legals.Goals as goal
 
-few : (c : After-legals_by-listed) → c.legals_by-listed.result.count ≤ max_area
-few c = listed-few _ _ _ _ _ _ refl c.legals_by-listed.ensures
+few : (g : _) (c : After-legals_by-listed g) → c.legals_by-listed.result.count ≤ max_area
+few g c = listed-few _ _ _ _ _ _ refl c.legals_by-listed.ensures
 
-taken : (c : After-legals_by-listed) → length (take c.legals_by-listed.result.count c.legals_by-listed.new.buffer) ≡ c.legals_by-listed.result.count
-taken c = length-take-le _ _ (omega (arith, few c, c.legals_by-listed.auto.buffer))
+taken : (g : _) (c : After-legals_by-listed g) → length (take c.legals_by-listed.result.count c.legals_by-listed.new.buffer) ≡ c.legals_by-listed.result.count
+taken g c = length-take-le _ _ (omega (arith, few g c, c.legals_by-listed.auto.buffer))
 
 pub returns-then-listed-ne-ACCEPTED : goal.returns-then-listed-ne-ACCEPTED
 unfolding TrueDesk
-returns-then-listed-ne-ACCEPTED c =
+returns-then-listed-ne-ACCEPTED g c =
     let l = c.legals_by-listed.ensures in
     let t = c.tell.ensures in
     record {
@@ -39,18 +39,18 @@ returns-then-listed-ne-ACCEPTED c =
     }
 
 pub slice_bounds-points-end : goal.slice_bounds-points-end
-slice_bounds-points-end c = omega (arith, few (goal.at.slice_bounds-points-end c).After-legals_by-listed, c.legals_by-listed.auto.buffer)
+slice_bounds-points-end g c = omega (arith, few g (goal.at.slice_bounds-points-end g c).After-legals_by-listed, c.legals_by-listed.auto.buffer)
 
 pub slice_bounds-put_points-end : goal.slice_bounds-put_points-end
-slice_bounds-put_points-end c = sym (taken (goal.at.slice_bounds-put_points-end c).After-legals_by-listed)
+slice_bounds-put_points-end g c = sym (taken g (goal.at.slice_bounds-put_points-end g c).After-legals_by-listed)
 
 pub put_points-requires : goal.put_points-requires
-put_points-requires c =
-    omega (arith, taken (goal.at.put_points-requires c).After-legals_by-listed, few (goal.at.put_points-requires c).After-legals_by-listed, c.put_number.ensures.upper_bound, c.put_spaced.ensures.upper_bound, c.requires)
+put_points-requires g c =
+    omega (arith, taken g (goal.at.put_points-requires g c).After-legals_by-listed, few g (goal.at.put_points-requires g c).After-legals_by-listed, c.put_number.ensures.upper_bound, c.put_spaced.ensures.upper_bound, c.requires)
 
 pub returns : goal.returns
 unfolding TrueDesk
-returns c =
+returns g c =
     let l = c.legals_by-listed.ensures in
     let zero-told = c.if-listed-ne-ACCEPTED.false in
     let said = all-behind _ _ _ c.from.ensures c.put_number.ensures.put c.put_spaced.ensures.put c.put_points.ensures.put in
@@ -62,7 +62,7 @@ returns c =
           omega (
             arith,
             text-short c.args.out.now.items text 8000 said
-                (omega (arith, taken (goal.at.returns c).After-legals_by-listed, few (goal.at.returns c).After-legals_by-listed, c.put_number.ensures.upper_bound, c.put_spaced.ensures.upper_bound, c.put_points.ensures.upper_bound)),
+                (omega (arith, taken g (goal.at.returns g c).After-legals_by-listed, few g (goal.at.returns g c).After-legals_by-listed, c.put_number.ensures.upper_bound, c.put_spaced.ensures.upper_bound, c.put_points.ensures.upper_bound)),
           );
       done =
           record {

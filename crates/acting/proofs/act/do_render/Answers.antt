@@ -12,15 +12,15 @@ use Rattle.acting.specs.Laws.Draws.{max_picture, drawn-few, drawn-refused, drawn
 use Rattle.acting.proofs.act.do_render.Goals.{After-pretty_string-drawn}
 use Rattle.acting.proofs.act.do_render.Goals as goal
 
-few : (c : After-pretty_string-drawn) → c.pretty_string-drawn.result.count ≤ max_picture
-few c = drawn-few _ _ _ _ refl c.pretty_string-drawn.ensures
+few : (g : _) (c : After-pretty_string-drawn g) → c.pretty_string-drawn.result.count ≤ max_picture
+few g c = drawn-few _ _ _ _ refl c.pretty_string-drawn.ensures
 
-taken : (c : After-pretty_string-drawn) → length (take c.pretty_string-drawn.result.count c.pretty_string-drawn.new.buffer) ≡ c.pretty_string-drawn.result.count
-taken c = length-take-le _ _ (omega (arith, few c, c.pretty_string-drawn.auto.buffer))
+taken : (g : _) (c : After-pretty_string-drawn g) → length (take c.pretty_string-drawn.result.count c.pretty_string-drawn.new.buffer) ≡ c.pretty_string-drawn.result.count
+taken g c = length-take-le _ _ (omega (arith, few g c, c.pretty_string-drawn.auto.buffer))
 
 pub returns-then-drawn-ne-ACCEPTED : goal.returns-then-drawn-ne-ACCEPTED
 unfolding Unlent
-returns-then-drawn-ne-ACCEPTED c =
+returns-then-drawn-ne-ACCEPTED g c =
     λ bytes e.
     let d = c.pretty_string-drawn.ensures in
     let t = c.tell.ensures in
@@ -37,24 +37,24 @@ returns-then-drawn-ne-ACCEPTED c =
     }
 
 pub slice_bounds-picture-end : goal.slice_bounds-picture-end
-slice_bounds-picture-end c = omega (arith, few (goal.at.slice_bounds-picture-end c).After-pretty_string-drawn, c.pretty_string-drawn.auto.buffer)
+slice_bounds-picture-end g c = omega (arith, few g (goal.at.slice_bounds-picture-end g c).After-pretty_string-drawn, c.pretty_string-drawn.auto.buffer)
 
 pub slice_bounds-put_hex-end : goal.slice_bounds-put_hex-end
-slice_bounds-put_hex-end c = sym (taken (goal.at.slice_bounds-put_hex-end c).After-pretty_string-drawn)
+slice_bounds-put_hex-end g c = sym (taken g (goal.at.slice_bounds-put_hex-end g c).After-pretty_string-drawn)
 
 pub put_hex-requires : goal.put_hex-requires
-put_hex-requires c = omega (arith, taken (goal.at.put_hex-requires c).After-pretty_string-drawn, few (goal.at.put_hex-requires c).After-pretty_string-drawn, c.requires)
+put_hex-requires g c = omega (arith, taken g (goal.at.put_hex-requires g c).After-pretty_string-drawn, few g (goal.at.put_hex-requires g c).After-pretty_string-drawn, c.requires)
 
 pub returns : goal.returns
 unfolding Unlent
-returns c =
+returns g c =
     λ bytes e.
     let d = c.pretty_string-drawn.ensures in
     let p = c.put_hex.ensures in
     record {
       text = hex (take c.pretty_string-drawn.result.count c.pretty_string-drawn.new.buffer);
       written = p;
-      short = omega (arith, length-hex (take c.pretty_string-drawn.result.count c.pretty_string-drawn.new.buffer), taken (goal.at.returns c).After-pretty_string-drawn, few (goal.at.returns c).After-pretty_string-drawn);
+      short = omega (arith, length-hex (take c.pretty_string-drawn.result.count c.pretty_string-drawn.new.buffer), taken g (goal.at.returns g c).After-pretty_string-drawn, few g (goal.at.returns g c).After-pretty_string-drawn);
       done =
           record {
             told = drawn-text _ _ _ _ refl d;

@@ -11,16 +11,16 @@ use Rattle.acting.proofs.act.do_state.Goals as goal
 
 pub returns : goal.returns
 unfolding Unlent
-returns c =
+returns g c =
     λ bytes e.
     let s = c.put_state.ensures in
-    let g = c.args.game in
+    let game = c.args.game in
     ⊎_elim
     (λ is.
     record {
-      text = state (view_of g);
+      text = state (view_of game);
       written = s.stated is;
-      short = omega (arith, text-short c.args.out.now.items (state (view_of g)) 1024 (s.stated is) s.short);
+      short = omega (arith, text-short c.args.out.now.items (state (view_of game)) 1024 (s.stated is) s.short);
       done = record { told = λ t. refl; damaged = λ n. absurd (n is); stays = record { game = refl; lent = e; kept = refl } };
     })
     (λ n.
@@ -30,4 +30,4 @@ returns c =
       short = omega (arith, text-short c.args.out.now.items (decimal (number Damaged)) 1024 (s.damaged n) s.short);
       done = record { told = λ t. absurd (n t); damaged = λ m. refl; stays = record { game = refl; lent = e; kept = refl } };
     })
-    (state-or-not g)
+    (state-or-not game)

@@ -1,0 +1,8 @@
+-- `do_resume`: the number that the call answered.
+use Rattle.telling.specs.Told.{Unlent}
+use Rattle.telling.specs.Laws.Told.{told-calls}
+use Rattle.acting.proofs.act.do_resume.Goals as goal
+
+pub returns : goal.returns
+unfolding Unlent
+returns g c = told-calls c.tell.ensures c.resume.ensures
