@@ -65,18 +65,18 @@ fn can_begin(height: u8, width: u8, flags: u8) -> Result<(), Refusal>
     Ok(())
 }
 
-// A refused new game is the fresh one of 1 × 1 with flags 0.
+// A refused new game is the fresh one of 1 × 1 with flags 0. One fresh game is made, whichever it is: two would have a place each.
 pub fn new_game(height: u8, width: u8, flags: u8) -> Answered
     ensures { Made height width flags result.answer result.game }
 {
     let asked = can_begin(height, width, flags);
-    let game = match asked {
-        Ok(()) => fresh(height, width, flags),
-        Err(_) => fresh(1, 1, 0),
+    let (height, width, flags) = match asked {
+        Ok(()) => (height, width, flags),
+        Err(_) => (1, 1, 0),
     };
     Answered {
         answer: number(asked),
-        game,
+        game: fresh(height, width, flags),
     }
 }
 

@@ -734,7 +734,7 @@ static ZOBRIST: [u64; HASH_ENTRIES] = [
 ];
 
 // The table, which stands once in the program and is lent from there.
-fn table() -> &'static [u64; HASH_ENTRIES]
+pub fn table() -> &'static [u64; HASH_ENTRIES]
     ensures { result.now ≡ tabulate entry 0 hash_entries }
 {
     &ZOBRIST

@@ -1,14 +1,14 @@
 -- Laws of History: a record is among the first of the lent bytes exactly if the rules say that its board is recorded, and what is noted
 -- is what the rules note.
-use Rattle.std.specs.Prelude.{◌≡◌, refl, ℕ, ◌+◌, ◌*◌, ◌<◌}
+use Rattle.std.specs.Prelude.{◌≡◌, refl, ℕ, ◌+◌, ◌*◌, ◌≤◌, ◌<◌, length}
 use Rattle.std.proofs.Math.Path.{sym, ap}
-use Rattle.std.proofs.Common.{◌∙◌}
+use Rattle.std.proofs.Common.{◌∙◌, arith, length-drop, length-take-le}
 use Rattle.std.proofs.Math.Bool.{true, false}
 use mathlib.Core.List.{List, ◌++◌}
 use Rattle.std.proofs.Math.ListN.{take, drop}
 use Rattle.rules.specs.Sizes.{record_bytes}
 use Rattle.rules.specs.Lists.{below, same}
-use Rattle.rules.specs.Records.{record_of, stored, recorded, records_after, bytes_after}
+use Rattle.rules.specs.Records.{record_of, capacity, stored, recorded, records_after, bytes_after}
 use Rattle.rules.proofs.Laws.Lists.{any-yes, any_none, mem_below, below-mem}
 use Rattle.rules.proofs.Laws.Records.{room}
 use Rattle.history.specs.History.{among, Noting, Noted, Adding}
@@ -17,6 +17,11 @@ use Rattle.history.specs.History.{among, Noting, Noted, Adding}
 pub among-recorded : (bytes : List ℕ) (n : ℕ) (cols : List ℕ) → among bytes n (record_of cols) ≡ recorded bytes n cols
 unfolding among recorded
 among-recorded bytes n cols = refl
+
+-- a stored record is whole
+pub length-stored : (bytes : List ℕ) (n i : ℕ) → n ≤ capacity bytes → i < n → length (stored bytes i) ≡ record_bytes
+unfolding stored capacity
+length-stored bytes n i within l = length-take-le record_bytes (drop (record_bytes * i) bytes) (rw (length-drop (record_bytes * i) bytes) (omega arith))
 
 module _ (bytes : List ℕ) (n : ℕ) (r : List ℕ) where
   pub among-here : (i : ℕ) → i < n → same (stored bytes i) r ≡ true → among bytes n r ≡ true

@@ -6,11 +6,11 @@ use borrow.Author.Tests.{ltb-true, lt-ltb}
 use Rattle.game.specs.Laws.Judge.{decides-yes, decides-no}
 use Rattle.game.proofs.judge.in_range.Goals as goal
 
-pub returns-then-game-gt-MAX_FLAGS : goal.returns-then-game-gt-MAX_FLAGS
-returns-then-game-gt-MAX_FLAGS c = decides-no (λ is. omega (arith, is.flagged))
+pub returns-then-clock-gt-MAX_FLAGS : goal.returns-then-clock-gt-MAX_FLAGS
+returns-then-clock-gt-MAX_FLAGS c = decides-no (λ is. omega (arith, is.flagged))
 
-pub returns-then-game-gt2 : goal.returns-then-game-gt2
-returns-then-game-gt2 c = decides-no (λ is. omega (arith, is.pauses))
+pub returns-then-clock-gt2 : goal.returns-then-clock-gt2
+returns-then-clock-gt2 c = decides-no (λ is. omega (arith, is.pauses))
 
 pub returns-then-index-gt-MAX_AREA : goal.returns-then-index-gt-MAX_AREA
 returns-then-index-gt-MAX_AREA c = decides-no (λ is. omega (arith, is.handicapped))
