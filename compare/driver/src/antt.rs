@@ -78,7 +78,7 @@ impl Said {
     /// As the words after the call.
     pub fn text(&self) -> String {
         let [turn, passes, white, black] = self.counts;
-        let option = |choice: Option<u64>| choice.map_or("none".to_string(), |number| format!("(some {number})"));
+        let option = |choice: Option<u64>| choice.map_or("None".to_string(), |number| format!("(Some {number})"));
         format!(
             "{} {} {turn} {passes} {white} {black} {} {} {} {}",
             self.number,
