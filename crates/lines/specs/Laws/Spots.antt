@@ -97,6 +97,17 @@ unfolding numeral
 numeral-none None e = refl
 numeral-none (Some m) e = absurd (none-some (min m most) e)
 
+-- what is no pair at the front names no spot
+odd : (w : Option ℕ) (spot : Spot) (others : List Spot) → handicap_of (consed w (Some [])) ≡ Handicap (spot ∷ others) → ⊥
+unfolding consed handicap_of spotted pairs
+odd None spot others e = no-handicap e
+odd (Some n) spot others e = no-handicap e
+
+broken : (w : Option ℕ) (o : Option (List ℕ)) (spot : Spot) (others : List Spot) → handicap_of (consed w (consed None o)) ≡ Handicap (spot ∷ others) → ⊥
+unfolding consed handicap_of
+broken None o spot others e = no-handicap e
+broken (Some n) o spot others e = no-handicap e
+
 -- a word that writes no number
 unwritten : {ws : List (List ℕ)} {word : List ℕ} {others : List (List ℕ)} → ws ≡ word ∷ others → None ≡ numeral (number_of word) → numbers ws ≡ None
 unfolding numbers consed
@@ -116,21 +127,13 @@ module _ (text : List ℕ) where
 module _ (text second : List ℕ) (row : Option ℕ) (e : numbers (words text) ≡ consed row (numbers (words second))) where
   -- a row with no column behind it is none
   pub spotted-odd : words second ≡ [] → (r : Option NextSpot) → Spotted text r
-  unfolding Spotted Names numbers consed handicap_of spotted pairs
+  unfolding Spotted Names numbers
   spotted-odd f r spot others its =
-      absurd (alone row (sym (ap handicap_of (e ∙ ap (λ (ws : List (List ℕ)). consed row (numbers ws)) f)) ∙ its))
-    where
-      alone : (w : Option ℕ) → handicap_of (consed w (Some [])) ≡ Handicap (spot ∷ others) → ⊥
-      alone None z = no-handicap z
-      alone (Some n) z = no-handicap z
+      absurd (odd row spot others (sym (ap handicap_of (e ∙ ap (λ (ws : List (List ℕ)). consed row (numbers ws)) f)) ∙ its))
 
   pub spotted-broken : numbers (words second) ≡ None → (r : Option NextSpot) → Spotted text r
-  unfolding consed
-  spotted-broken f = spotted-bad text (e ∙ ap (consed row) f ∙ nothing row)
-    where
-      nothing : (w : Option ℕ) → consed w None ≡ None
-      nothing None = refl
-      nothing (Some n) = refl
+  unfolding Spotted Names consed
+  spotted-broken f r spot others its = absurd (broken row (Some []) spot others (sym (ap handicap_of (e ∙ ap (consed row) f)) ∙ its))
 
 -- the same by the words, one after the other
 module _ (text : List ℕ) {row : List ℕ} (second : List ℕ) (e : words text ≡ row ∷ words second) where
